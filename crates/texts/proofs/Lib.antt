@@ -1,0 +1,5 @@
+pub mod Digits
+pub mod Decimals
+pub mod Parted
+pub mod Opening
+pub mod Writing

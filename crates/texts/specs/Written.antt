@@ -1,0 +1,21 @@
+-- What a writer leaves in its buffer.
+use mathlib.Core.Path.{_≡_}
+use mathlib.Core.List.{List, [], _∷_}
+use Prim.Native.Nat.{ℕ, _+_, _-_, _^_, min}
+use lib.ListN.{length, set}
+use denote.Ref.{now}
+use Rattle.texts.specs.declared.writer.Writer.{Writer}
+
+-- n bytes more, counted up to the largest number that fits 64 bits
+abbrev pub onward : ℕ → ℕ → ℕ
+onward p n = min (p + n) (2 ^ 64 - 1)
+
+-- text written over old from a place on, as far as old goes
+abbrev pub over : List ℕ → ℕ → List ℕ → List ℕ
+over old p [] = old
+over old p (b ∷ bs) = over (set old p b) (onward p 1) bs
+
+-- the writer w was given text, which made it v
+pub record Gave (w : Writer) (text : List ℕ) (v : Writer) : Type 0 where
+  pub bytes : now (v .buffer) ≡ over (now (w .buffer)) (w .length) text
+  pub counted : v .length ≡ onward (w .length) (length text)

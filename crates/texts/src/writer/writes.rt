@@ -1,0 +1,42 @@
+ghost use mathlib.Core.Path.{_≡_};
+ghost use mathlib.Core.List.{[], _∷_};
+ghost use Rattle.std.specs.Written.{decimal};
+ghost use Rattle.texts.specs.Written.{Gave};
+use crate::writer::Writer;
+
+impl<'a> Writer<'a> {
+    /// A writer that has written nothing.
+    pub fn new(buffer: &'a mut [u8]) -> Writer<'a>
+        ensures buffer { λ r. ⌜ now (r .buffer) ≡ now (buffer .entry) ⌝ }
+        ensures length { λ r. ⌜ r .length ≡ 0 ⌝ }
+    {
+        Writer { buffer, length: 0 }
+    }
+
+    /// How many bytes were written.
+    pub fn length(&self) -> usize
+        ensures { λ r. ⌜ r ≡ now (self .entry) .length ⌝ }
+    {
+        self.length
+    }
+
+    /// Writes one byte.
+    pub fn byte(&mut self, b: u8)
+        ensures { λ _. ⌜ Gave (now (self .entry)) (b ∷ []) (now (self .exit)) ⌝ }
+    {
+        if self.length < self.buffer.len() {
+            self.buffer[self.length] = b;
+        }
+        self.length = self.length.saturating_add(1);
+    }
+
+    /// Writes `n` in decimal.
+    pub fn number(&mut self, n: u32)
+        ensures { λ _. ⌜ Gave (now (self .entry)) (decimal n) (now (self .exit)) ⌝ }
+    {
+        if n >= 10 {
+            self.number(n / 10);
+        }
+        self.byte(b'0' + (n % 10) as u8);
+    }
+}
