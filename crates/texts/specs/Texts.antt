@@ -39,6 +39,11 @@ Took b s None s' = Opened b (s .taken + 1) (before 10 (now (s .rest))) None × (
 abbrev pub missingAt : Lines → Fault
 missingAt s = cond (eqb (length (now (s .rest))) 0) (faultAt EndsEarly (at 0 0)) (faultAt NotDue (at (s .taken + 1) 1))
 
+-- the next line is due with the letter b
+abbrev pub Due : ℕ → Lines → Result Line Fault → Lines → Type 0
+Due b s (Ok l) s' = Took b s (Some l) s'
+Due b s (Err f) s' = Took b s None s' × (f ≡ missingAt s)
+
 -- no line is due any more
 abbrev pub leftAt : Lines → Result Unit Fault
 leftAt s = cond (eqb (length (now (s .rest))) 0) (Ok tt) (Err (faultAt NotDue (at (s .taken + 1) 1)))

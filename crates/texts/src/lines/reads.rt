@@ -2,7 +2,7 @@ ghost use mathlib.Core.Path.{_≡_};
 ghost use mathlib.Core.Bool.{cond};
 ghost use Prim.Native.Nat.{_+_, _<_, _≤_};
 ghost use lib.ListN.{length};
-ghost use Rattle.texts.specs.Texts.{wholeOf, Took, missingAt, leftAt};
+ghost use Rattle.texts.specs.Texts.{wholeOf, Took, Due, missingAt, leftAt};
 use crate::cut::cut;
 use crate::cut::occurrences;
 use crate::line::Line;
@@ -60,6 +60,16 @@ impl<'a> Lines<'a> {
                 Some(line)
             }
             None => None,
+        }
+    }
+
+    /// Takes the next line, whose first field must be `letter`.
+    pub fn due(&mut self, letter: u8) -> Result<Line<'a>, Fault>
+        ensures { λ r. ⌜ Due letter (now (self .entry)) r (now (self .exit)) ⌝ }
+    {
+        match self.take(letter) {
+            Some(line) => Ok(line),
+            None => Err(self.missing()),
         }
     }
 

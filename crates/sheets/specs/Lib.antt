@@ -1,0 +1,4 @@
+pub mod Operators
+pub mod Readers
+pub mod Holding
+pub mod Rows

@@ -1,0 +1,7 @@
+//! Commitment sheets: their data, the reader and the writer of their text.
+
+pub mod holders;
+pub mod operator;
+pub mod parts;
+pub mod readers;
+pub mod row_reader;
