@@ -1,7 +1,7 @@
 -- A rising list with a number put in or taken out.
 use mathlib.Core.Path.{_≡_, refl, sym, ap, subst, _∙_}
 use mathlib.Core.Logic.{inl, inr}
-use mathlib.Core.Bool.{Bool, true, false, _||_, _&&_, not, cond}
+use mathlib.Core.Bool.{Bool, true, false, _||_, _&&_, not}
 use mathlib.Core.List.{List}
 use Prim.Native.Nat.{ℕ, zero, suc, _+_, _-_, _<_, _≤_}
 use native.Mathlib.Omega.{arith}
@@ -167,24 +167,8 @@ module _ (xs ys : List ℕ) (n at v : ℕ) (o : Removed xs ys n at) (l : at < n)
     | inr gi ↦ omega (arith, o .past i gi (omega arith), o .past j (omega arith) (omega arith), r (i + 1) (j + 1) (omega arith) (omega arith))
   ]
 
-pub has-there : (m : ℕ → Bool) (v : ℕ) → m v ≡ true → (k : ℕ) → m k ≡ (eqb k v || m k)
-has-there m v h k = elim (cases-bool (eqb k v)) [
-  | inl e ↦ (let t : m k ≡ true = ap m (eqb-true k v e) ∙ h in grind (arith, e, t))
-  | inr e ↦ grind (arith, e)
-]
-
-pub has-not : (m : ℕ → Bool) (v : ℕ) → m v ≡ false → (k : ℕ) → m k ≡ (not (eqb k v) && m k)
-has-not m v h k = elim (cases-bool (eqb k v)) [
-  | inl e ↦ (let t : m k ≡ false = ap m (eqb-true k v e) ∙ h in grind (arith, e, t))
-  | inr e ↦ grind (arith, e)
-]
-
 pub above-none : (xs : List ℕ) (n v : ℕ) → Small xs n → 64 ≤ v → among xs n v ≡ false
 above-none xs n v s h = elim (cases-bool (among xs n v)) [ inl t ↦ absurd (omega (arith, among-small xs n v s t)) | inr f ↦ f ]
-
-pub cond-on : (r : Bool) (f h : ℕ → Bool) → r ≡ true → (k : ℕ) → (cond r f h) k ≡ f k
-cond-on true f h e k = refl
-cond-on false f h e k = absurd (false≢true e)
 
 pub joined-one : (w z a b e : Bool) → w ≡ (e || z) → z ≡ (a || b) → w ≡ (a || (e || b))
 joined-one w z true b e p q = grind (arith, p, q)

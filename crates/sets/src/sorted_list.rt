@@ -19,8 +19,7 @@ pub struct SortedList {
 impl SortedList {
     /// The empty set.
     pub fn new() -> SortedList
-        ensures value { λ r. ⌜ r .len ≡ 0 ⌝ }
-        ensures empty { λ r. ⌜ ((k : ℕ) → among (r .items) (r .len) k ≡ false) ⌝ }
+        ensures { λ r. ⌜ ((k : ℕ) → among (r .items) (r .len) k ≡ false) ⌝ }
     {
         SortedList {
             items: [0; 64],

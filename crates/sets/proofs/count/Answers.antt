@@ -1,4 +1,3 @@
-use mathlib.Core.Path.{sym}
 use mathlib.Core.Bool.{true, false}
 use native.Mathlib.Omega.{arith}
 use Rattle.sets.proofs.CountLaws.{count-more}
@@ -11,6 +10,6 @@ loop-state-again g c =
     let m = g .S·StateSet .holds (c .args .set .now) in
     let i = c .loop-state .inv in
     elim (c .if-has .came) [
-      | then-has w ↦ (let e = count-more n m true (sym (w .if-has .ensures tt)) in (omega (arith, w .total-is, i .0), omega (arith, w .total-is, i .1, e)))
-      | else-has w ↦ (let e = count-more n m false (sym (w .if-has .ensures tt)) in (omega (arith, w .total-is, i .0), omega (arith, w .total-is, i .1, e)))
+      | then-has w ↦ (let e = count-more n m true (w .if-has .ensures tt) in (omega (arith, w .total-is, i .0), omega (arith, w .total-is, i .1, e)))
+      | else-has w ↦ (let e = count-more n m false (w .if-has .ensures tt) in (omega (arith, w .total-is, i .0), omega (arith, w .total-is, i .1, e)))
     ]

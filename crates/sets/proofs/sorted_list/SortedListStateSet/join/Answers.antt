@@ -4,7 +4,8 @@ use lib.ListN.{getD}
 use Rattle.std.proofs.shelf.Tests.{lt-ltb}
 use Rattle.sets.specs.Member.{plus}
 use Rattle.sets.specs.Sorted.{among}
-use Rattle.sets.proofs.SortedLaws.{cond-on, joined-one, among-more}
+use Rattle.sets.proofs.MemberLaws.{cond-on}
+use Rattle.sets.proofs.SortedLaws.{joined-one, among-more}
 use Rattle.sets.proofs.sorted_list.SortedListStateSet.join.Needs as need
 
 pub loop-i-again : need.loop-i-again

@@ -4,7 +4,8 @@ use Prim.Native.Nat.{_<_}
 use borrow.Author.Needs.{needs}
 use Rattle.std.proofs.shelf.Tests.{lt-ltb}
 use Rattle.sets.specs.Sorted.{among}
-use Rattle.sets.proofs.SortedLaws.{has-there, among-at, between-fits, inserted-has, inserted-small, inserted-rises}
+use Rattle.sets.proofs.MemberLaws.{has-there}
+use Rattle.sets.proofs.SortedLaws.{among-at, between-fits, inserted-has, inserted-small, inserted-rises}
 use Rattle.sets.proofs.sorted_list.SortedListStateSet.put.Needs as need
 
 pub insert-at-requires : need.insert-at-requires

@@ -1,6 +1,7 @@
 use native.Mathlib.Omega.{arith}
 use Rattle.sets.specs.Sorted.{among}
-use Rattle.sets.proofs.SortedLaws.{has-not, above-none, between-none, removed-has, removed-small, removed-rises}
+use Rattle.sets.proofs.MemberLaws.{has-not}
+use Rattle.sets.proofs.SortedLaws.{above-none, between-none, removed-has, removed-small, removed-rises}
 use Rattle.sets.proofs.sorted_list.SortedListStateSet.take.Needs as need
 
 pub returns-then-state-ge-CAPACITY : need.returns-then-state-ge-CAPACITY

@@ -1,0 +1,4 @@
+pub mod Iteration
+pub mod Lists
+pub mod Quantifiers
+pub mod UntilRound
