@@ -1,3 +1,4 @@
+pub mod GloballyRound
 pub mod Iteration
 pub mod Lists
 pub mod Quantifiers

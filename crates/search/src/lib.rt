@@ -1,6 +1,7 @@
 //! Searches over the steps between states, one text for every step rule and every kind of set.
 mod boolean;
 mod deadlock_search;
+mod globally_search;
 mod next_search;
 mod room;
 mod rules;
@@ -12,6 +13,7 @@ pub use boolean::complement;
 pub use boolean::copy;
 pub use boolean::either;
 pub use deadlock_search::lowest_without_step;
+pub use globally_search::globally;
 pub use next_search::every_next;
 pub use next_search::next;
 pub use rules::BitRows;
