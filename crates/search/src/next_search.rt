@@ -1,6 +1,5 @@
 ghost use mathlib.Core.Bool.{cond};
 ghost use mathlib.Core.Path.{_≡_};
-ghost use Prim.Native.Nat.{ℕ};
 ghost use lib.Dec.{leb};
 ghost use Rattle.sets.specs.Member.{Same};
 ghost use Rattle.search.specs.Next.{into, within, someNext, everyNext};

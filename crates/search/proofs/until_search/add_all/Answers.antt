@@ -1,6 +1,5 @@
-use mathlib.Core.Path.{_≡_, sym, _∙_}
+use mathlib.Core.Path.{_≡_, _∙_}
 use mathlib.Core.Bool.{true}
-use Prim.Native.Nat.{_<_}
 use Rattle.std.proofs.shelf.Tests.{lt-ltb}
 use Rattle.sets.specs.Member.{plus}
 use Rattle.search.specs.Stack.{contents}

@@ -1,11 +1,10 @@
-use mathlib.Core.Path.{_≡_, sym, ap, _∙_}
-use mathlib.Core.Bool.{true, not, _||_, _&&_}
+use mathlib.Core.Path.{sym, ap, _∙_}
+use mathlib.Core.Bool.{not, _||_, _&&_}
 use native.Mathlib.Omega.{arith}
 use Prim.Native.Nat.{_<_}
 use lib.Dec.{eqb, ltb}
 use lib.ListN.{length}
 use Rattle.std.proofs.shelf.Tests.{ltb-true, and-parts}
-use Rattle.search.specs.Stack.{contents}
 use Rattle.search.specs.Next.{into}
 use Rattle.search.specs.Rounds.{entering, among}
 use Rattle.search.proofs.Lists.{among-below, some-below}
