@@ -1,0 +1,6 @@
+pub mod GloballyRound
+pub mod Iteration
+pub mod Lists
+pub mod Quantifiers
+pub mod StackLaws
+pub mod UntilRound

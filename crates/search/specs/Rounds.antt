@@ -1,0 +1,28 @@
+-- What one round of a search works with.
+use mathlib.Core.Bool.{Bool, false, _||_, _&&_, not, cond}
+use mathlib.Core.List.{List, [], _∷_, _++_}
+use Prim.Native.Nat.{ℕ, zero, suc, _*_}
+use lib.Dec.{leb, eqb}
+use Rattle.search.specs.Next.{into}
+
+-- room for n states: in the set, in a byte, and two slots for each
+abbrev pub enough : ℕ → ℕ → ℕ → Bool
+enough n capacity slots = leb n capacity && (leb n 256 && leb (2 * n) slots)
+
+-- the numbers below n that pass, rising
+abbrev pub listBelow : ℕ → (ℕ → Bool) → List ℕ
+listBelow zero p = []
+listBelow (suc n) p = listBelow n p ++ cond (p n) (n ∷ []) []
+
+-- k is in the list
+abbrev pub among : List ℕ → ℕ → Bool
+among [] k = false
+among (x ∷ xs) k = eqb k x || among xs k
+
+-- a state of f outside z that has a step into z
+abbrev pub entering : ℕ → (ℕ → ℕ → Bool) → (ℕ → Bool) → (ℕ → Bool) → ℕ → Bool
+entering n steps f z k = not (z k) && (f k && into n steps z k)
+
+-- a state of z that has no step into z
+abbrev pub leaving : ℕ → (ℕ → ℕ → Bool) → (ℕ → Bool) → ℕ → Bool
+leaving n steps z k = z k && not (into n steps z k)

@@ -1,0 +1,80 @@
+ghost use mathlib.Core.Bool.{cond};
+ghost use mathlib.Core.Path.{_≡_};
+ghost use lib.Dec.{leb};
+ghost use Rattle.sets.specs.Member.{Same};
+ghost use Rattle.search.specs.Next.{into, within, someNext, everyNext};
+use crate::StepRule;
+use sets::StateSet;
+
+/// Whether `from` leads to some state below `states` that `goal` has.
+pub(crate) fn leads_into<R: StepRule, G: StateSet>(
+    rule: &R,
+    states: usize,
+    from: usize,
+    goal: &G,
+) -> bool
+    ensures { λ r. ⌜ r ≡ into states (steps (now (rule .entry))) (holds (now (goal .entry))) from ⌝ }
+{
+    for to in 0..states {
+        if goal.has(to) && rule.leads(from, to) {
+            return true;
+        }
+    }
+    false
+}
+
+/// Whether `goal` has every state below `states` that `from` leads to.
+fn leads_only_into<R: StepRule, G: StateSet>(rule: &R, states: usize, from: usize, goal: &G) -> bool
+    ensures { λ r. ⌜ r ≡ within states (steps (now (rule .entry))) (holds (now (goal .entry))) from ⌝ }
+{
+    for to in 0..states {
+        if !goal.has(to) && rule.leads(from, to) {
+            return false;
+        }
+    }
+    true
+}
+
+/// Makes `set` the states below `states` that have a step into `goal`, or answers `false` where it cannot hold them.
+pub fn next<R: StepRule, G: StateSet, S: StateSet>(
+    rule: &R,
+    states: usize,
+    goal: &G,
+    set: &mut S,
+) -> bool
+    ensures fits { λ r. ⌜ r ≡ leb states (S·StateSet .room) ⌝ }
+    ensures after { λ r. ⌜ Same (S·StateSet .holds (now (set .exit))) (cond r (someNext states (steps (now (rule .entry))) (G·StateSet .holds (now (goal .entry)))) (S·StateSet .holds (now (set .entry)))) ⌝ }
+{
+    if states > S::limit() {
+        return false;
+    }
+    set.clear();
+    for from in 0..states {
+        if leads_into(rule, states, from, goal) {
+            let _ = set.put(from);
+        }
+    }
+    true
+}
+
+/// Makes `set` the states below `states` whose steps all lead into `goal`, or answers `false` where it cannot hold them.
+pub fn every_next<R: StepRule, G: StateSet, S: StateSet>(
+    rule: &R,
+    states: usize,
+    goal: &G,
+    set: &mut S,
+) -> bool
+    ensures fits { λ r. ⌜ r ≡ leb states (S·StateSet .room) ⌝ }
+    ensures after { λ r. ⌜ Same (S·StateSet .holds (now (set .exit))) (cond r (everyNext states (steps (now (rule .entry))) (G·StateSet .holds (now (goal .entry)))) (S·StateSet .holds (now (set .entry)))) ⌝ }
+{
+    if states > S::limit() {
+        return false;
+    }
+    set.clear();
+    for from in 0..states {
+        if leads_only_into(rule, states, from, goal) {
+            let _ = set.put(from);
+        }
+    }
+    true
+}

@@ -1,0 +1,27 @@
+-- Laws of sets as predicates.
+use mathlib.Core.Path.{_≡_, refl, ap, _∙_}
+use mathlib.Core.Logic.{inl, inr}
+use mathlib.Core.Bool.{Bool, true, false, _||_, _&&_, not, cond}
+use Prim.Native.Nat.{ℕ}
+use native.Mathlib.Omega.{arith}
+use lib.Dec.{eqb}
+use Rattle.std.proofs.shelf.Tests.{cases-bool, eqb-true, false≢true}
+
+-- one more changes nothing where it was in
+pub has-there : (m : ℕ → Bool) (v : ℕ) → m v ≡ true → (k : ℕ) → m k ≡ (eqb k v || m k)
+has-there m v h k = elim (cases-bool (eqb k v)) [
+  | inl e ↦ (let t : m k ≡ true = ap m (eqb-true k v e) ∙ h in grind (arith, e, t))
+  | inr e ↦ grind (arith, e)
+]
+
+-- one fewer changes nothing where it was out
+pub has-not : (m : ℕ → Bool) (v : ℕ) → m v ≡ false → (k : ℕ) → m k ≡ (not (eqb k v) && m k)
+has-not m v h k = elim (cases-bool (eqb k v)) [
+  | inl e ↦ (let t : m k ≡ false = ap m (eqb-true k v e) ∙ h in grind (arith, e, t))
+  | inr e ↦ grind (arith, e)
+]
+
+-- what a choice between two sets holds, where the test is true
+pub cond-on : (r : Bool) (f h : ℕ → Bool) → r ≡ true → (k : ℕ) → (cond r f h) k ≡ f k
+cond-on true f h e k = refl
+cond-on false f h e k = absurd (false≢true e)
