@@ -2,3 +2,5 @@ pub mod Operators
 pub mod Readers
 pub mod Holding
 pub mod Rows
+pub mod Moves
+pub mod Sheets

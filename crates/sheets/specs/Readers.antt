@@ -1,7 +1,7 @@
 -- What the fields of each kind of line say.
 use mathlib.Core.Bool.{Bool, true, false, cond, not, _&&_, _||_}
 use mathlib.Core.List.{List, [], _∷_}
-use Prim.Native.Nat.{ℕ, zero, suc, _+_, _^_}
+use Prim.Native.Nat.{ℕ, zero, suc, _+_, _^_, _≤_, _<_}
 use lib.Dec.{eqb, ltb}
 use lib.ListN.{replicate, set}
 use Rattle.std.specs.declared.option.Option.{Option}
@@ -33,6 +33,14 @@ counted n c m k = cond (eqb c m) k (Err (faultAt FieldCount (at n 0)))
 abbrev pub numbered : {B : Type 0} → ℕ → ℕ → ℕ → ℕ → List ℕ → (ℕ → List ℕ → Result B Fault) → Result B Fault
 numbered n f low limit bs k = andThen (fieldOf low limit (at n f) (before 44 bs)) (λ x. k x (after 44 bs))
 
+-- the limits of a sheet
+pub record Bounded (h : Header) : Type 0 where
+  pub few-parties : h .parties ≤ 6
+  pub few-channels : h .channels ≤ 8
+  pub few-states : h .states ≤ 128
+  pub some-states : 0 < h .states
+  pub few-marks : h .marks ≤ 16
+
 abbrev pub headerOf : ℕ → ℕ → List ℕ → Result Header Fault
 headerOf n c bs =
     counted n c 6 (
@@ -58,7 +66,7 @@ pairOf n c bs limit₁ limit₂ last =
 
 -- a state as its S line gives it
 abbrev pub plainState : ℕ → ℕ → State
-plainState start marks = record { start = eqb start 1; marks = marks; locals = replicate 6 (record { position = 0; copies = replicate 8 0 }); successors = 0 }
+plainState start marks = record { start = eqb start 1; marks = marks; locals = replicate 6 (record { position = 0; copies = replicate 8 0 }); successors = record { bits = 0 } }
 
 abbrev pub stateOf : ℕ → ℕ → List ℕ → Header → ℕ → Result State Fault
 stateOf n c bs h due =

@@ -2,7 +2,7 @@
 use mathlib.Core.Path.{_≡_}
 use mathlib.Core.Bool.{Bool, true, false, cond, not, _&&_}
 use mathlib.Core.List.{List, [], _∷_}
-use Prim.Native.Nat.{ℕ, _<_}
+use Prim.Native.Nat.{ℕ, _+_, _<_}
 use lib.Dec.{eqb, ltb}
 use lib.ListN.{getD}
 use Rattle.std.specs.declared.option.Option.{Option}
@@ -116,3 +116,8 @@ lettered n c bs (Some o) h who due = counted n c (o .1) (fieldsOf n (before 44 b
 abbrev pub rowOf : ℕ → ℕ → List ℕ → Header → Holders → ℕ → Result Row Fault
 rowOf n c bs h who due =
     cond (ltb c 3) (Err (faultAt FieldCount (at n 0))) (lettered n c bs (operatorField (before 44 (after 44 bs))) h who due)
+
+-- rows that may stand as the lines from number k on
+abbrev pub soundRows : Header → Holders → ℕ → List Row → Bool
+soundRows h who k [] = true
+soundRows h who k (r ∷ rs) = soundRow h who k r && soundRows h who (k + 1) rs

@@ -1,3 +1,6 @@
+use crate::operator::Operator;
+use sets::BitSet;
+
 /// The first line of a sheet: its number, and how many parties, channels, states and marks it has.
 /// A party is someone who can be committed, a channel is what parties read from each other, a state is
 /// one of the global states that the parties can be in, and a mark is a fact that can hold in a state.
@@ -17,14 +20,14 @@ pub struct Local {
     pub copies: [u16; 8],
 }
 
-/// A global state: whether it is a start, its marks as the bits of a number, what each party knows
-/// there, and the states that a move leads to as the bits of a number.
+/// A global state: whether it is a start, its marks as a sum of powers of two, what each party knows
+/// there, and the states that a move leads to.
 #[derive(Clone, Copy)]
 pub struct State {
     pub start: bool,
     pub marks: u16,
     pub locals: [Local; 6],
-    pub successors: u128,
+    pub successors: BitSet,
 }
 
 /// A formula line: an operator and its operands, of which those that it lacks are 0.
@@ -40,5 +43,3 @@ pub struct Pair {
     pub first: u32,
     pub second: u32,
 }
-
-use crate::operator::Operator;

@@ -2,12 +2,13 @@ ghost use mathlib.Core.Path.{_≡_};
 ghost use Prim.Native.Nat.{_≤_, _<_, _^_};
 ghost use lib.ListN.{length, replicate};
 ghost use Rattle.std.specs.Vec.{made};
-ghost use Rattle.sheets.specs.Readers.{headerOf, above, pairOf, stateOf, copiesFrom, localOf};
+ghost use Rattle.sheets.specs.Readers.{Bounded, headerOf, above, pairOf, stateOf, copiesFrom, localOf};
 use crate::holders::Holders;
 use crate::parts::Header;
 use crate::parts::Local;
 use crate::parts::Pair;
 use crate::parts::State;
+use sets::BitSet;
 use texts::line::Line;
 use texts::refusal::Fault;
 use texts::refusal::Refusal;
@@ -15,6 +16,7 @@ use texts::refusal::Refusal;
 /// The header line.
 pub fn header(mut line: Line<'_>) -> Result<Header, Fault>
     ensures value { λ r. ⌜ r ≡ headerOf (line .entry .line) (line .entry .count) (now (line .entry .rest)) ⌝ }
+    ensures within { λ r. ⌜ made r Bounded ⌝ }
 {
     line.expect(6)?;
     let number = line.number(2, 1, 10_000)?;
@@ -92,7 +94,7 @@ pub(crate) fn state(mut line: Line<'_>, header: Header, due: u8) -> Result<State
             position: 0,
             copies: [0; 8],
         }; 6],
-        successors: 0,
+        successors: BitSet::new(),
     })
 }
 

@@ -3,6 +3,8 @@ ghost use lib.ListN.{length};
 
 mod reads;
 
+pub use reads::check_whole;
+
 /// The lines of a text that are still to be read, and how many have been.
 #[derive(Drop)]
 pub struct Lines<'a> {
