@@ -8,6 +8,8 @@ use Rattle.std.specs.Of.Vec.{vec-len, vec-items}
 use Rattle.sheets.specs.declared.holders.Holders.{Holders}
 use Rattle.sheets.specs.declared.parts.Header.{Header}
 use Rattle.sheets.specs.declared.parts.State.{State}
+use Rattle.sheets.specs.declared.parts.Row.{Row}
+use Rattle.sheets.specs.declared.sheet.Sheet.{Sheet}
 use Rattle.sheets.specs.declared.tables.Tables.{Tables}
 use Rattle.std.specs.declared.result.Result.{Result}
 use Rattle.std.specs.declared.result.Result.the-variants.{Ok, Err}
@@ -39,3 +41,13 @@ pub record Filled (h : Header) (who : Holders) (t : Tables) : Type 0 where
   pub states : vec-len (t .states) ≡ h .states
   pub few-rows : vec-len (t .rows) ≤ 64
   pub sound-rows : soundRows h who 0 (vec-items (t .rows)) ≡ true
+
+abbrev pub statesOf : Sheet → List State
+statesOf s = vec-items (s .tables .states)
+
+abbrev pub rowsOf : Sheet → List Row
+rowsOf s = vec-items (s .tables .rows)
+
+-- the header of a sheet before the first one is read
+abbrev pub blankHeader : Header
+blankHeader = record { number = 0; parties = 0; channels = 0; states = 0; marks = 0 }

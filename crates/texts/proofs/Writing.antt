@@ -1,12 +1,15 @@
 -- Texts written one after another.
 use mathlib.Core.Path.{_≡_, refl, sym, ap, subst, _∙_}
-use mathlib.Core.List.{List, [], _∷_, _++_}
+use mathlib.Core.List.{List, [], _∷_, _++_, append-assoc, append-nil}
 use Prim.Native.Nat.{ℕ, _+_, _-_, _^_, _≤_, _<_, min}
 use native.Mathlib.Omega.{arith}
-use lib.ListN.{length, set, length-append}
+use native.Mathlib.Numerals.{add-one}
+use lib.ListN.{length, getD, set, take, length-append}
 use denote.Ref.{now}
+use Rattle.std.specs.Written.{decimal}
+use Rattle.std.proofs.shelf.Lists.{take-more, take-all}
 use Rattle.texts.specs.declared.writer.Writer.{Writer}
-use Rattle.texts.specs.Written.{over, onward, Gave}
+use Rattle.texts.specs.Written.{over, onward, Gave, fieldsText, textsBelow}
 
 pub onward-more : (p m n : ℕ) → onward (onward p m) n ≡ onward p (m + n)
 onward-more p m n = omega arith
@@ -28,3 +31,27 @@ gave-more {u = u} {v = v} {w = w} {xs = xs} {ys = ys} h a b = record {
 
 pub gave-as : {u v : Writer} {xs ys : List ℕ} → xs ≡ ys → Gave u xs v → Gave u ys v
 gave-as {u = u} {v = v} e g = subst (λ t. Gave u t v) e g
+
+pub gave-none : (w : Writer) → w .length < 2 ^ 64 → Gave w [] w
+gave-none w h = record { bytes = refl; counted = omega arith }
+
+fields-append : (ms ns : List ℕ) → fieldsText (ms ++ ns) ≡ fieldsText ms ++ fieldsText ns
+fields-append [] ns = refl
+fields-append (m ∷ ms) ns = ap (λ t. (44 ∷ decimal m) ++ t) (fields-append ms ns) ∙ sym (append-assoc (44 ∷ decimal m) (fieldsText ms) (fieldsText ns))
+
+pub fields-more : (ns : List ℕ) (i : ℕ) → i < length ns → fieldsText (take (i + 1) ns) ≡ fieldsText (take i ns) ++ (44 ∷ decimal (getD ns i 0))
+fields-more ns i h =
+    ap fieldsText (take-more ns i 0 h) ∙ fields-append (take i ns) (getD ns i 0 ∷ [])
+    ∙ ap (λ t. fieldsText (take i ns) ++ (44 ∷ t)) (append-nil (decimal (getD ns i 0)))
+
+pub fields-all : (ns : List ℕ) (i : ℕ) → length ns ≤ i → fieldsText (take i ns) ≡ fieldsText ns
+fields-all ns i h = ap fieldsText (take-all i ns h)
+
+-- texts one after another, in a loop
+pub texts-none : (f : ℕ → List ℕ) (w : Writer) → w .length < 2 ^ 64 → Gave w (textsBelow 0 f) w
+unfolding textsBelow
+texts-none f w h = gave-none w h
+
+pub texts-more : (f : ℕ → List ℕ) (i : ℕ) {u v w : Writer} → u .length < 2 ^ 64 → Gave u (textsBelow i f) v → Gave v (f i) w → Gave u (textsBelow (i + 1) f) w
+unfolding textsBelow
+texts-more f i {u = u} {w = w} h a b = subst (λ n. Gave u (textsBelow n f) w) (sym (add-one i)) (gave-more h a b)

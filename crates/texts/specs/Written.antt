@@ -1,9 +1,10 @@
 -- What a writer leaves in its buffer.
 use mathlib.Core.Path.{_≡_}
-use mathlib.Core.List.{List, [], _∷_}
-use Prim.Native.Nat.{ℕ, _+_, _-_, _^_, min}
+use mathlib.Core.List.{List, [], _∷_, _++_}
+use Prim.Native.Nat.{ℕ, zero, suc, _+_, _-_, _^_, min}
 use lib.ListN.{length, set}
 use denote.Ref.{now}
+use Rattle.std.specs.Written.{decimal}
 use Rattle.texts.specs.declared.writer.Writer.{Writer}
 
 -- n bytes more, counted up to the largest number that fits 64 bits
@@ -19,3 +20,17 @@ over old p (b ∷ bs) = over (set old p b) (onward p 1) bs
 pub record Gave (w : Writer) (text : List ℕ) (v : Writer) : Type 0 where
   pub bytes : now (v .buffer) ≡ over (now (w .buffer)) (w .length) text
   pub counted : v .length ≡ onward (w .length) (length text)
+
+-- numbers as fields, each behind a comma
+abbrev pub fieldsText : List ℕ → List ℕ
+fieldsText [] = []
+fieldsText (n ∷ ns) = (44 ∷ decimal n) ++ fieldsText ns
+
+-- a letter and numbers as a line
+abbrev pub lineText : ℕ → List ℕ → List ℕ
+lineText letter ns = (letter ∷ []) ++ (fieldsText ns ++ 10 ∷ [])
+
+-- the texts of the numbers below n, one after another
+unfoldable pub textsBelow : ℕ → (ℕ → List ℕ) → List ℕ
+textsBelow zero f = []
+textsBelow (suc n) f = textsBelow n f ++ f n

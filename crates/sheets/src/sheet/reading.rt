@@ -3,7 +3,7 @@ ghost use mathlib.Core.Bool.{true};
 ghost use mathlib.Core.List.{[]};
 ghost use Prim.Native.Nat.{ℕ, _+_, _≤_, _<_};
 ghost use Rattle.std.specs.Of.Vec.{vec-len, vec-items};
-ghost use Rattle.std.specs.Vec.{made};
+ghost use Rattle.std.specs.Vec.{made, refused};
 ghost use Rattle.sheets.specs.Readers.{Bounded};
 ghost use Rattle.sheets.specs.Rows.{soundRows};
 ghost use Rattle.sheets.specs.Sheets.{anyStart, WholeStates, Filled};
@@ -18,6 +18,7 @@ use crate::readers::local;
 use crate::readers::pair;
 use crate::readers::state;
 use crate::row_reader::row;
+use crate::sheet::Sheet;
 use crate::tables::Tables;
 use search::lowest_without_step;
 use sets::BitSetStateSet;
@@ -175,4 +176,18 @@ fn fill(tables: &mut Tables, text: &[u8]) -> Result<Front, Fault>
     lines.finish()?;
     check_states(tables.states.as_slice())?;
     Ok(Front { header, holders })
+}
+
+impl Sheet {
+    /// Reads a sheet's text. The spare tables are those of the sheet that was there, or hold nothing of
+    /// use after a refusal, which leaves the sheet as it was.
+    pub fn read(&mut self, spare: &mut Tables, text: &[u8]) -> Result<(), Fault>
+        ensures { λ r. ⌜ refused r (λ _. now (self .exit) ≡ now (self .entry)) ⌝ }
+    {
+        let Front { header, holders } = fill(spare, text)?;
+        std::mem::swap(&mut self.tables, spare);
+        self.header = header;
+        self.holders = holders;
+        Ok(())
+    }
 }

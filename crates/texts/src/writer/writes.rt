@@ -1,7 +1,7 @@
 ghost use mathlib.Core.Path.{_≡_};
 ghost use mathlib.Core.List.{[], _∷_};
 ghost use Rattle.std.specs.Written.{decimal};
-ghost use Rattle.texts.specs.Written.{Gave};
+ghost use Rattle.texts.specs.Written.{Gave, fieldsText, lineText};
 use crate::writer::Writer;
 
 impl<'a> Writer<'a> {
@@ -38,5 +38,31 @@ impl<'a> Writer<'a> {
             self.number(n / 10);
         }
         self.byte(b'0' + (n % 10) as u8);
+    }
+
+    /// Writes a comma and `n`.
+    pub fn field(&mut self, n: u32)
+        ensures { λ _. ⌜ Gave (now (self .entry)) (44 ∷ decimal n) (now (self .exit)) ⌝ }
+    {
+        self.byte(b',');
+        self.number(n);
+    }
+
+    /// Writes each number behind a comma.
+    pub fn fields(&mut self, numbers: &[u32])
+        ensures { λ _. ⌜ Gave (now (self .entry)) (fieldsText (now (numbers .entry))) (now (self .exit)) ⌝ }
+    {
+        for n in numbers {
+            self.field(*n);
+        }
+    }
+
+    /// Writes a line of a letter and numbers.
+    pub fn line(&mut self, letter: u8, numbers: &[u32])
+        ensures { λ _. ⌜ Gave (now (self .entry)) (lineText letter (now (numbers .entry))) (now (self .exit)) ⌝ }
+    {
+        self.byte(letter);
+        self.fields(numbers);
+        self.byte(b'\n');
     }
 }
