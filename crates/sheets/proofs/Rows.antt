@@ -30,7 +30,7 @@ fields-from n number bs o h who due m xs e f is = sym (
 
 -- one sound row more
 pub sound-push : (h : Header) (who : Holders) (k m : ℕ) (rs : List Row) (r : Row) → soundRows h who k rs ≡ true → m ≡ k + length rs → soundRow h who m r ≡ true
-  → soundRows h who k (rs ++ r ∷ []) ≡ true
+    → soundRows h who k (rs ++ r ∷ []) ≡ true
 sound-push h who k m [] r s e t = and-from _ _ (ap (λ n. soundRow h who n r) (let z : k ≡ m = omega arith in z) ∙ t) refl
 sound-push h who k m (q ∷ rs) r s e t =
     let p = and-parts (soundRow h who k q) (soundRows h who (k + 1) rs) s in

@@ -4,3 +4,5 @@ pub mod Holding
 pub mod Rows
 pub mod Moves
 pub mod Sheets
+pub mod Render
+pub mod Writing

@@ -3,8 +3,10 @@ ghost use mathlib.Core.Bool.{true};
 ghost use Prim.Native.Nat.{_≤_};
 ghost use Rattle.std.specs.Of.Vec.{vec-len, vec-items};
 ghost use Rattle.sheets.specs.Rows.{soundRows};
+
 mod access;
 mod reading;
+mod writing;
 
 use crate::holders::Holders;
 use crate::parts::Header;

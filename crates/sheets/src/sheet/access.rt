@@ -21,8 +21,18 @@ impl Sheet {
         ensures { λ r. ⌜ made r (λ s. (s .header ≡ blankHeader) × (statesOf s ≡ []) × (rowsOf s ≡ [])) ⌝ }
     {
         let tables = Tables::new(heap)?;
-        let header = Header { number: 0, parties: 0, channels: 0, states: 0, marks: 0 };
-        Ok(Sheet { header, holders: Holders::none(), tables })
+        let header = Header {
+            number: 0,
+            parties: 0,
+            channels: 0,
+            states: 0,
+            marks: 0,
+        };
+        Ok(Sheet {
+            header,
+            holders: Holders::none(),
+            tables,
+        })
     }
 
     /// Whether no sheet has been read yet.

@@ -43,7 +43,12 @@ fn read_holders(lines: &mut Lines<'_>, header: Header) -> Result<Holders, Fault>
     let mut holders = Holders::none();
     let mut last = None;
     while let Some(line) = lines.take(b'C') {
-        let holder = pair(line, u32::from(header.channels), u32::from(header.parties), last)?;
+        let holder = pair(
+            line,
+            u32::from(header.channels),
+            u32::from(header.parties),
+            last,
+        )?;
         holders.add(holder.first as usize, holder.second as usize);
         last = Some(holder);
     }
@@ -65,7 +70,13 @@ fn read_states(lines: &mut Lines<'_>, header: Header, tables: &mut Tables) -> Re
 }
 
 /// Reads the L lines of one state.
-fn read_locals(lines: &mut Lines<'_>, header: Header, holders: &Holders, tables: &mut Tables, state: u8) -> Result<(), Fault>
+fn read_locals(
+    lines: &mut Lines<'_>,
+    header: Header,
+    holders: &Holders,
+    tables: &mut Tables,
+    state: u8,
+) -> Result<(), Fault>
     requires bounded { ⌜ Bounded header ⌝ }
     requires within { ⌜ state < vec-len (now tables .states) ⌝ }
     ensures states { λ _. ⌜ vec-len (now (tables .exit) .states) ≡ vec-len (now (tables .entry) .states) ⌝ }
@@ -80,7 +91,12 @@ fn read_locals(lines: &mut Lines<'_>, header: Header, holders: &Holders, tables:
 }
 
 /// Reads the L lines of all states.
-fn read_all_locals(lines: &mut Lines<'_>, header: Header, holders: &Holders, tables: &mut Tables) -> Result<(), Fault>
+fn read_all_locals(
+    lines: &mut Lines<'_>,
+    header: Header,
+    holders: &Holders,
+    tables: &mut Tables,
+) -> Result<(), Fault>
     requires bounded { ⌜ Bounded header ⌝ }
     requires states { ⌜ vec-len (now tables .states) ≡ header .states ⌝ }
     ensures states { λ _. ⌜ vec-len (now (tables .exit) .states) ≡ header .states ⌝ }
@@ -104,8 +120,16 @@ fn read_moves(lines: &mut Lines<'_>, header: Header, tables: &mut Tables) -> Res
         if count >= MOVE_LIMIT {
             return Err(line.fault(Refusal::TooManyLines, 0));
         }
-        let step = pair(line, u32::from(header.states), u32::from(header.states), last)?;
-        let _ = tables.states[step.first as usize].successors.put(step.second as usize);
+        let step = pair(
+            line,
+            u32::from(header.states),
+            u32::from(header.states),
+            last,
+        )?;
+        let _ = tables
+            .states[step.first as usize]
+            .successors
+            .put(step.second as usize);
         last = Some(step);
         count += 1;
     }
@@ -113,7 +137,12 @@ fn read_moves(lines: &mut Lines<'_>, header: Header, tables: &mut Tables) -> Res
 }
 
 /// Reads the F lines into the empty table of rows.
-fn read_rows(lines: &mut Lines<'_>, header: Header, holders: &Holders, tables: &mut Tables) -> Result<(), Fault>
+fn read_rows(
+    lines: &mut Lines<'_>,
+    header: Header,
+    holders: &Holders,
+    tables: &mut Tables,
+) -> Result<(), Fault>
     requires empty { ⌜ vec-items (now tables .rows) ≡ [] ⌝ }
     ensures states { λ _. ⌜ vec-len (now (tables .exit) .states) ≡ vec-len (now (tables .entry) .states) ⌝ }
     ensures rows { λ r. ⌜ made r (λ _. (vec-len (now (tables .exit) .rows) ≤ 64) × (soundRows header (now (holders .entry)) 0 (vec-items (now (tables .exit) .rows)) ≡ true)) ⌝ }
@@ -123,7 +152,9 @@ fn read_rows(lines: &mut Lines<'_>, header: Header, holders: &Holders, tables: &
         if due >= ROW_LIMIT {
             return Err(line.fault(Refusal::TooManyLines, 0));
         }
-        tables.rows.push_reserved(row(line, header, holders, due as u8)?);
+        tables
+            .rows
+            .push_reserved(row(line, header, holders, due as u8)?);
     }
     Ok(())
 }
@@ -145,10 +176,19 @@ fn check_states(states: &[State]) -> Result<(), Fault>
     ensures { λ r. ⌜ WholeStates (now (states .entry)) r ⌝ }
 {
     if !some_start(states) {
-        return Err(Fault { refusal: Refusal::NoStart, place: Place { line: 0, field: 0 } });
+        return Err(Fault {
+            refusal: Refusal::NoStart,
+            place: Place { line: 0, field: 0 },
+        });
     }
     match lowest_without_step(&Moves { states }, states.len()) {
-        Some(state) => Err(Fault { refusal: Refusal::NoMove, place: Place { line: 0, field: state } }),
+        Some(state) => Err(Fault {
+            refusal: Refusal::NoMove,
+            place: Place {
+                line: 0,
+                field: state,
+            },
+        }),
         None => Ok(()),
     }
 }

@@ -1,5 +1,6 @@
 ghost use mathlib.Core.Path.{_≡_};
 ghost use mathlib.Core.List.{[], _∷_};
+ghost use denote.Ref.{name};
 ghost use Rattle.std.specs.Written.{decimal};
 ghost use Rattle.texts.specs.Written.{Gave, fieldsText, lineText};
 use crate::writer::Writer;
@@ -9,6 +10,7 @@ impl<'a> Writer<'a> {
     pub fn new(buffer: &'a mut [u8]) -> Writer<'a>
         ensures buffer { λ r. ⌜ now (r .buffer) ≡ now (buffer .entry) ⌝ }
         ensures length { λ r. ⌜ r .length ≡ 0 ⌝ }
+        ensures lent { λ r. ⌜ name (r .buffer) ≡ name (buffer .entry) ⌝ }
     {
         Writer { buffer, length: 0 }
     }

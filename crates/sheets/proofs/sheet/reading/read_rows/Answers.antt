@@ -10,9 +10,10 @@ use Rattle.sheets.proofs.sheet.reading.read_rows.Needs as need
 pub loop-line-again : need.loop-line-again
 loop-line-again c =
     let t = c .loop-line .tables in
-    let e : c .len-due .result ≡ 0 + length (vec-items (t .rows)) = omega (arith, c .len-due .ensures, t .rows .ok .0) in
-    ( c .loop-line .inv .0
-    , omega (arith, c .push-reserved .ensures .len)
-    , ap (soundRows (c .args .header) (c .args .holders .now) 0) (c .push-reserved .ensures .items)
-      ∙ sound-push (c .args .header) (c .args .holders .now) 0 (c .len-due .result) (vec-items (t .rows)) (c .in-Continue-row .field-0)
-        (c .loop-line .inv .2) e (c .in-Continue-row .ensures tt .sound) )
+    let e : c .len-due .result ≡ 0 + length (vec-items (t .rows)) = omega (arith, c .len-due .ensures, t .rows .ok .0) in (
+      c .loop-line .inv .0,
+      omega (arith, c .push-reserved .ensures .len),
+      ap (soundRows (c .args .header) (c .args .holders .now) 0) (c .push-reserved .ensures .items)
+          ∙ sound-push (c .args .header) (c .args .holders .now) 0 (c .len-due .result) (vec-items (t .rows)) (c .in-Continue-row .field-0)
+          (c .loop-line .inv .2) e (c .in-Continue-row .ensures tt .sound),
+    )

@@ -11,6 +11,6 @@ pub returns : need.returns
 returns c =
     let w = c .args .self .now in
     elim (c .if-self .came) [
-      | then-self v ↦ gave-byte w _ (c .args .b) (ap (λ u. u .1 .0 .now) (v .self-is)) (c .saturating-add-self .ensures ∙ ap (λ u. onward (u .1 .1 .0) 1) (v .self-is))
-      | else-self v ↦ gave-byte w _ (c .args .b) (ap (λ u. u .1 .0 .now) (v .self-is) ∙ sym (set-past (w .buffer .now) (w .length) (c .args .b) (v .if-self .left))) (c .saturating-add-self .ensures ∙ ap (λ u. onward (u .1 .1 .0) 1) (v .self-is))
+      | then-self v ↦ gave-byte w _ (c .args .b) (ap (λ u. u .1 .0 .now) (v .self-is)) (c .saturating-add-self .ensures ∙ ap (λ u. onward (u .1 .1 .0) 1) (v .self-is)) (ap (λ u. u .1 .0 .name) (v .self-is))
+      | else-self v ↦ gave-byte w _ (c .args .b) (ap (λ u. u .1 .0 .now) (v .self-is) ∙ sym (set-past (w .buffer .now) (w .length) (c .args .b) (v .if-self .left))) (c .saturating-add-self .ensures ∙ ap (λ u. onward (u .1 .1 .0) 1) (v .self-is)) (ap (λ u. u .1 .0 .name) (v .self-is))
     ]
