@@ -1,8 +1,10 @@
 -- What one round of a search works with.
 use mathlib.Core.Bool.{Bool, false, _||_, _&&_, not, cond}
 use mathlib.Core.List.{List, [], _∷_, _++_}
-use Prim.Native.Nat.{ℕ, zero, suc, _*_}
+use mathlib.Core.Path.{_≡_}
+use Prim.Native.Nat.{ℕ, zero, suc, _*_, _<_, _≤_}
 use lib.Dec.{leb, eqb}
+use lib.ListN.{getD}
 use Rattle.search.specs.Next.{into}
 
 -- room for n states: in the set, in a byte, and two slots for each
@@ -26,3 +28,7 @@ entering n steps f z k = not (z k) && (f k && into n steps z k)
 -- a state of z that has no step into z
 abbrev pub leaving : ℕ → (ℕ → ℕ → Bool) → (ℕ → Bool) → ℕ → Bool
 leaving n steps z k = z k && not (into n steps z k)
+
+-- xs has for each state a number below which it leads to no state of z
+abbrev pub Passed : ℕ → (ℕ → ℕ → Bool) → (ℕ → Bool) → List ℕ → Type 0
+Passed n steps z xs = (k : ℕ) → k < n → (getD xs k 0 ≤ n) × (into (getD xs k 0) steps z k ≡ false)
