@@ -1,3 +1,6 @@
+pub mod Adding
+pub mod Expanding
+pub mod Frontiers
 pub mod GloballyRound
 pub mod Iteration
 pub mod Lists
