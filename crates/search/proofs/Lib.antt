@@ -1,6 +1,10 @@
+pub mod Adding
+pub mod Expanding
+pub mod Frontiers
 pub mod GloballyRound
 pub mod Iteration
 pub mod Lists
+pub mod Passed
 pub mod Quantifiers
 pub mod StackLaws
 pub mod UntilRound

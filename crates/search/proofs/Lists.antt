@@ -8,18 +8,18 @@ use native.Mathlib.Numerals.{add-one}
 use native.Mathlib.Omega.{arith}
 use lib.Dec.{eqb, ltb}
 use lib.ListN.{length, length-append}
-use Rattle.std.proofs.shelf.Tests.{cases-bool, cond-true, eqb-true, eq-eqb, lt-ltb, or-left, or-right}
+use Rattle.std.proofs.shelf.Tests.{cases-bool, cond-true, eqb-true, lt-ltb}
 use Rattle.std.proofs.shelf.Ways.{tells}
 use Rattle.search.specs.Next.{any}
 use Rattle.search.specs.Rounds.{among, listBelow}
 use Rattle.search.specs.Stack.{contents, capacity}
 use Rattle.search.specs.declared.stack.Stack.{Stack}
 
-or-assoc : (a b c : Bool) → ((a || b) || c) ≡ (a || (b || c))
+pub or-assoc : (a b c : Bool) → ((a || b) || c) ≡ (a || (b || c))
 or-assoc true b c = refl
 or-assoc false b c = refl
 
-or-false : (a : Bool) → (a || false) ≡ a
+pub or-false : (a : Bool) → (a || false) ≡ a
 or-false true = refl
 or-false false = refl
 
@@ -27,16 +27,9 @@ among-append : (xs ys : List ℕ) (k : ℕ) → among (xs ++ ys) k ≡ (among xs
 among-append [] ys k = refl
 among-append (x ∷ xs) ys k = ap (λ v. eqb k x || v) (among-append xs ys k) ∙ sym (or-assoc (eqb k x) (among xs k) (among ys k))
 
--- the list ys is xs with x on top
-module _ (xs ys : List ℕ) (x : ℕ) (e : ys ≡ xs ++ x ∷ []) where
-  pub among-push : (k : ℕ) → among ys k ≡ (among xs k || eqb k x)
-  among-push k = ap (λ v. among v k) e ∙ among-append xs (x ∷ []) k ∙ ap (λ v. among xs k || v) (or-false (eqb k x))
-
-  pub among-last : among ys x ≡ true
-  among-last = among-push x ∙ or-right (among xs x) (eqb x x) (eq-eqb x x refl)
-
-  pub among-front : (k : ℕ) → among xs k ≡ true → among ys k ≡ true
-  among-front k h = among-push k ∙ or-left (among xs k) (eqb k x) h
+-- a list with x on top
+pub among-push : (xs ys : List ℕ) (x : ℕ) → ys ≡ xs ++ x ∷ [] → (k : ℕ) → among ys k ≡ (among xs k || eqb k x)
+among-push xs ys x e k = ap (λ v. among v k) e ∙ among-append xs (x ∷ []) k ∙ ap (λ v. among xs k || v) (or-false (eqb k x))
 
 one-more : (p : ℕ → Bool) (n k : ℕ) (b : Bool) → p n ≡ b → ((ltb k n && p k) || among (cond b (n ∷ []) []) k) ≡ (ltb k (suc n) && p k)
 one-more p n k true e = elim (cases-bool (eqb k n)) [

@@ -5,7 +5,7 @@ use mathlib.Core.Bool.{Bool, true, false}
 use Prim.Native.Nat.{ℕ, zero, suc, _+_, _<_}
 use native.Mathlib.Numerals.{add-one}
 use native.Mathlib.Omega.{arith}
-use Rattle.std.proofs.shelf.Tests.{cases-bool, cases-eq, or-cases, or-left, or-right, or-from, and-from, and-left, and-right, false≢true}
+use Rattle.std.proofs.shelf.Tests.{cases-bool, cases-eq, or-cases, or-left, or-right, or-from, and-from, and-left, and-right, both-ways, false≢true}
 use Rattle.search.specs.Next.{any, all}
 
 pub any-none-more : (n : ℕ) (p : ℕ → Bool) → p n ≡ false → any n p ≡ false → any (n + 1) p ≡ false
@@ -29,6 +29,13 @@ any-found (suc n) p e = elim (or-cases (p n) (any n p) e) [
 pub any-none : (n : ℕ) (p : ℕ → Bool) → any n p ≡ false → (k : ℕ) → k < n → p k ≡ false
 any-none n p e k l = elim (cases-bool (p k)) [
   | inl h ↦ (let t = any-at n p k l h in grind (arith, e, t))
+  | inr h ↦ h
+]
+
+-- fewer that pass, and still none
+pub any-none-fewer : (n : ℕ) (p q : ℕ → Bool) → ((k : ℕ) → q k ≡ true → p k ≡ true) → any n p ≡ false → any n q ≡ false
+any-none-fewer n p q sub e = elim (cases-bool (any n q)) [
+  | inl h ↦ (let r = any-found n q h in absurd (both-ways (any n p) e (any-at n p (r .0) (r .1) (sub (r .0) (r .2)))))
   | inr h ↦ h
 ]
 

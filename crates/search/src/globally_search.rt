@@ -1,4 +1,4 @@
-ghost use mathlib.Core.Bool.{true, _&&_, not};
+ghost use mathlib.Core.Bool.{true, false, _&&_, not};
 ghost use mathlib.Core.List.{[]};
 ghost use mathlib.Core.Path.{_≡_};
 ghost use Prim.Native.Nat.{ℕ, _*_, _<_, _≤_};
@@ -6,21 +6,61 @@ ghost use lib.ListN.{length};
 ghost use Rattle.sets.specs.Member.{Same};
 ghost use Rattle.std.specs.Options.{Cases, isSome};
 ghost use Rattle.search.specs.Chains.{globallyStep, globallyChain, Settles, Inside};
-ghost use Rattle.search.specs.Next.{any};
-ghost use Rattle.search.specs.Rounds.{leaving, listBelow, among, enough};
+ghost use Rattle.search.specs.Next.{any, into};
+ghost use Rattle.search.specs.Rounds.{leaving, Passed, listBelow, among, enough};
 ghost use Rattle.search.specs.Stack.{contents, capacity};
 use crate::Stack;
 use crate::StepRule;
 use crate::copy;
-use crate::next_search::leads_into;
 use crate::room::enough;
 use sets::StateSet;
 
-/// Whether `state` is one of `set` that has no step into it.
-fn leaves<R: StepRule, S: StateSet>(rule: &R, states: usize, state: usize, set: &S) -> bool
-    ensures { λ r. ⌜ r ≡ leaving states (steps (now (rule .entry))) (holds (now (set .entry))) state ⌝ }
+/// The first state from `start` on, and below `states`, that `set` has and `state` leads to.
+fn first_step<R: StepRule, S: StateSet>(
+    rule: &R,
+    states: usize,
+    state: usize,
+    start: usize,
+    set: &S,
+) -> Option<usize>
+    requires within { ⌜ start ≤ states ⌝ }
+    requires passed { ⌜ into start (steps (now rule)) (holds (now set)) state ≡ false ⌝ }
+    ensures { λ r. ⌜ Cases r (into states (steps (now (rule .entry))) (holds (now (set .entry))) state ≡ false) (λ to. (to < states) × (into to (steps (now (rule .entry))) (holds (now (set .entry))) state ≡ false) × (into states (steps (now (rule .entry))) (holds (now (set .entry))) state ≡ true)) ⌝ }
 {
-    set.has(state) && !leads_into(rule, states, state, set)
+    for to in start..states {
+        if set.has(to) && rule.leads(state, to) {
+            return Some(to);
+        }
+    }
+    None
+}
+
+/// Whether `state` is one of `set` that has no step into it.
+/// The search for a step goes on where the last one ended, so that no step is asked for twice.
+fn leaves<R: StepRule, S: StateSet>(
+    rule: &R,
+    states: usize,
+    state: usize,
+    set: &S,
+    starts: &mut [u8],
+) -> bool
+    requires below { ⌜ state < states ⌝ }
+    requires bytes { ⌜ states ≤ 256 ⌝ }
+    requires starts { ⌜ states ≤ length (now starts) ⌝ }
+    requires passed { ⌜ Passed states (steps (now rule)) (holds (now set)) (now starts) ⌝ }
+    ensures told { λ r. ⌜ r ≡ leaving states (steps (now (rule .entry))) (holds (now (set .entry))) state ⌝ }
+    ensures passed { λ _. ⌜ Passed states (steps (now (rule .entry))) (holds (now (set .entry))) (now (starts .exit)) ⌝ }
+{
+    if !set.has(state) {
+        return false;
+    }
+    match first_step(rule, states, state, starts[state] as usize, set) {
+        None => true,
+        Some(to) => {
+            starts[state] = to as u8;
+            false
+        }
+    }
 }
 
 /// Pushes the states that the next round takes out of `set`.
@@ -28,16 +68,20 @@ fn push_leaving<R: StepRule, S: StateSet>(
     rule: &R,
     states: usize,
     set: &S,
+    starts: &mut [u8],
     stack: &mut Stack<'_, u8>,
 )
     requires bytes { ⌜ states ≤ 256 ⌝ }
     requires empty { ⌜ contents (now stack) ≡ [] ⌝ }
     requires slots { ⌜ states ≤ capacity (now stack) ⌝ }
+    requires starts { ⌜ states ≤ length (now starts) ⌝ }
+    requires passed { ⌜ Passed states (steps (now rule)) (holds (now set)) (now starts) ⌝ }
     ensures after { λ _. ⌜ contents (now (stack .exit)) ≡ listBelow states (leaving states (steps (now (rule .entry))) (holds (now (set .entry)))) ⌝ }
     ensures size { λ _. ⌜ capacity (now (stack .exit)) ≡ capacity (now (stack .entry)) ⌝ }
+    ensures passed { λ _. ⌜ Passed states (steps (now (rule .entry))) (holds (now (set .entry))) (now (starts .exit)) ⌝ }
 {
     for state in 0..states {
-        if leaves(rule, states, state, set) {
+        if leaves(rule, states, state, set, starts) {
             let _ = stack.push(state as u8);
         }
     }
@@ -59,18 +103,22 @@ fn shrink<R: StepRule, S: StateSet>(
     rule: &R,
     states: usize,
     set: &mut S,
+    starts: &mut [u8],
     stack: &mut Stack<'_, u8>,
 ) -> bool
     requires bytes { ⌜ states ≤ 256 ⌝ }
     requires empty { ⌜ contents (now stack) ≡ [] ⌝ }
     requires slots { ⌜ states ≤ capacity (now stack) ⌝ }
+    requires starts { ⌜ states ≤ length (now starts) ⌝ }
+    requires passed { ⌜ Passed states (steps (now rule)) (holds (now set)) (now starts) ⌝ }
     requires below { ⌜ ((k : ℕ) → holds (now set) k ≡ true → k < states) ⌝ }
     ensures empty { λ _. ⌜ contents (now (stack .exit)) ≡ [] ⌝ }
     ensures size { λ _. ⌜ capacity (now (stack .exit)) ≡ capacity (now (stack .entry)) ⌝ }
     ensures more { λ r. ⌜ r ≡ any states (leaving states (steps (now (rule .entry))) (holds (now (set .entry)))) ⌝ }
     ensures after { λ _. ⌜ Same (holds (now (set .exit))) (globallyStep states (steps (now (rule .entry))) (holds (now (set .entry)))) ⌝ }
+    ensures passed { λ _. ⌜ Passed states (steps (now (rule .entry))) (holds (now (set .exit))) (now (starts .exit)) ⌝ }
 {
-    push_leaving(rule, states, set, stack);
+    push_leaving(rule, states, set, starts, stack);
     let more = !stack.is_empty();
     remove_all(stack, set);
     more
@@ -91,9 +139,11 @@ fn globally_rounds<R: StepRule, F: StateSet, S: StateSet>(
     ensures inside { λ _. ⌜ Inside states (steps (now (rule .entry))) (F·StateSet .holds (now (operand .entry))) (S·StateSet .holds (now (set .exit))) ⌝ }
 {
     let _ = copy(states, operand, set);
-    let mut stack = Stack::new(slots);
+    let (starts, rest) = slots.split_at_mut(states);
+    starts.fill(0);
+    let mut stack = Stack::new(rest);
     let mut rounds = 0;
-    'rounds: while shrink(rule, states, set, &mut stack) {
+    'rounds: while shrink(rule, states, set, starts, &mut stack) {
         rounds += 1;
     }
     rounds

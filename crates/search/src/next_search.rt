@@ -7,12 +7,7 @@ use crate::StepRule;
 use sets::StateSet;
 
 /// Whether `from` leads to some state below `states` that `goal` has.
-pub(crate) fn leads_into<R: StepRule, G: StateSet>(
-    rule: &R,
-    states: usize,
-    from: usize,
-    goal: &G,
-) -> bool
+fn leads_into<R: StepRule, G: StateSet>(rule: &R, states: usize, from: usize, goal: &G) -> bool
     ensures { λ r. ⌜ r ≡ into states (steps (now (rule .entry))) (holds (now (goal .entry))) from ⌝ }
 {
     for to in 0..states {

@@ -1,11 +1,18 @@
 -- Laws of sets as predicates.
-use mathlib.Core.Path.{_≡_, refl, ap, _∙_}
+use mathlib.Core.Path.{_≡_, refl, sym, ap, _∙_}
 use mathlib.Core.Logic.{inl, inr}
 use mathlib.Core.Bool.{Bool, true, false, _||_, _&&_, not, cond}
 use Prim.Native.Nat.{ℕ}
 use native.Mathlib.Omega.{arith}
 use lib.Dec.{eqb}
 use Rattle.std.proofs.shelf.Tests.{cases-bool, eqb-true, false≢true}
+
+-- two tests that follow from each other
+pub same-from : (a b : Bool) → (a ≡ true → b ≡ true) → (b ≡ true → a ≡ true) → a ≡ b
+same-from true true f h = refl
+same-from true false f h = sym (f refl)
+same-from false true f h = h refl
+same-from false false f h = refl
 
 -- one more changes nothing where it was in
 pub has-there : (m : ℕ → Bool) (v : ℕ) → m v ≡ true → (k : ℕ) → m k ≡ (eqb k v || m k)

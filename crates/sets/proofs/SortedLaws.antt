@@ -1,5 +1,5 @@
 -- A rising list with a number put in or taken out.
-use mathlib.Core.Path.{_≡_, refl, sym, ap, subst, _∙_}
+use mathlib.Core.Path.{_≡_, sym, ap, subst, _∙_}
 use mathlib.Core.Logic.{inl, inr}
 use mathlib.Core.Bool.{Bool, true, false, _||_, _&&_, not}
 use mathlib.Core.List.{List}
@@ -9,13 +9,8 @@ use native.Mathlib.Numerals.{add-one}
 use lib.Dec.{eqb}
 use lib.ListN.{getD}
 use Rattle.std.proofs.shelf.Tests.{cases-order, cases-lt, cases-eq, or-cases, or-left, or-right, or-from, eqb-true, eq-eqb, ne-eqb, false≢true, both-ways, and-parts, and-from, not-true, not-from-false, cases-bool}
+use Rattle.sets.proofs.MemberLaws.{same-from}
 use Rattle.sets.specs.Sorted.{Small, Rising, among, Between, Inserted, Removed}
-
-pub same-from : (a b : Bool) → (a ≡ true → b ≡ true) → (b ≡ true → a ≡ true) → a ≡ b
-same-from true true f h = refl
-same-from true false f h = sym (f refl)
-same-from false true f h = h refl
-same-from false false f h = refl
 
 pub among-at : (xs : List ℕ) (n k i : ℕ) → i < n → getD xs i 0 ≡ k → among xs n k ≡ true
 among-at xs zero k i l e = absurd (omega arith)

@@ -1,5 +1,6 @@
 use mathlib.Core.Path.{_∙_}
 use native.Mathlib.Omega.{arith}
+use lib.ListN.{length}
 use Rattle.std.proofs.shelf.Tests.{le-leb}
 use Rattle.sets.specs.Member.{count}
 use Rattle.sets.proofs.CountLaws.{count-le}
@@ -8,6 +9,7 @@ use Rattle.search.specs.Boolean.{below}
 use Rattle.search.specs.Chains.{globallyStep}
 use Rattle.search.proofs.GloballyRound.{globally-stays, globally-changes, globally-falls, chain-below, settles-inside}
 use Rattle.search.proofs.Iteration.{running-first, running-more, running-last}
+use Rattle.search.proofs.Passed.{passed-first}
 use Rattle.search.proofs.globally_search.globally_rounds.Needs as need
 
 pub rounds-holds : need.rounds-holds
@@ -17,7 +19,8 @@ rounds-holds g c =
     let z = g .S·StateSet .holds (c .copy .last .set) in
     let on = c .copy .ensures .fits ∙ le-leb n _ (c .pre .fits) in (
       c .new-stack .ensures .empty,
-      omega (arith, c .pre .slots, c .new-stack .ensures .size),
+      omega (arith, c .pre .slots, c .new-stack .ensures .size, c .split-at-mut-starts .ensures .back-len),
+      passed-first n (g .R·StepRule .steps (c .args .rule .now)) z (c .fill .last .self) (length (c .split-at-mut-starts .result .0 .now)) (omega (arith, c .split-at-mut-starts .ensures .front-len)) (c .fill .ensures .after (λ y e. e)),
       running-first n (globallyStep n (g .R·StepRule .steps (c .args .rule .now))) start (count n) z
           (λ k. c .copy .ensures .after k ∙ cond-on (c .copy .result) start _ on k) (count-le n z),
     )
@@ -29,7 +32,9 @@ shrink-requires g c κs =
       bytes = c .pre .bytes;
       empty = m .0;
       slots = m .1;
-      below = chain-below (c .args .states) (g .R·StepRule .steps (c .args .rule .now)) (g .F·StateSet .holds (c .args .operand .now)) (c .rounds .rounds) (g .S·StateSet .holds (c .rounds .set)) (m .2 .is);
+      starts = omega (arith, c .rounds .kept .starts, c .fill .ensures .len, c .split-at-mut-starts .ensures .front-len);
+      passed = m .2;
+      below = chain-below (c .args .states) (g .R·StepRule .steps (c .args .rule .now)) (g .F·StateSet .holds (c .args .operand .now)) (c .rounds .rounds) (g .S·StateSet .holds (c .rounds .set)) (m .3 .is);
     }
 
 pub rounds-less : need.rounds-less
@@ -49,7 +54,8 @@ rounds-again g c =
     let t = c .rounds-test .taken in (
       c .shrink .ensures .empty,
       omega (arith, c .rounds .inv .1, c .shrink .ensures .size),
-      running-more n (globallyStep n s) (below n (g .F·StateSet .holds (c .args .operand .now))) (count n) (c .rounds .rounds) z w (c .rounds .inv .2) e
+      c .shrink .ensures .passed,
+      running-more n (globallyStep n s) (below n (g .F·StateSet .holds (c .args .operand .now))) (count n) (c .rounds .rounds) z w (c .rounds .inv .3) e
           (globally-falls n s z b told w e t) (globally-changes n s z b told t),
     )
 
@@ -61,7 +67,7 @@ returns g c =
     let r = c .rounds .rounds in
     let z = g .S·StateSet .holds (c .rounds .set) in
     let w = g .S·StateSet .holds (c .shrink .last .set) in
-    let m = c .rounds .inv .2 in
+    let m = c .rounds .inv .3 in
     let last = running-last n (globallyStep n s) (below n f) (count n) r z w m (c .shrink .ensures .after)
     (globally-stays n s z (c .shrink .result) (c .shrink .ensures .more) (chain-below n s f r z (m .is)) (c .rounds-test .left)) in
     record { after = last; inside = settles-inside n s f r w last }

@@ -4,6 +4,7 @@ use Prim.Native.Nat.{_≤_}
 use Rattle.sets.specs.Member.{count}
 use Rattle.search.specs.Boolean.{below}
 use Rattle.search.specs.Chains.{globallyStep}
+use Rattle.search.specs.Rounds.{Passed}
 use Rattle.search.specs.Stack.{contents, capacity}
 use Rattle.search.proofs.Iteration.{Running}
 use Rattle.search.proofs.globally_search.globally_rounds.Given as given
@@ -11,6 +12,7 @@ use Rattle.search.proofs.globally_search.globally_rounds.Given as given
 abbrev pub Inv-rounds : given.InvT-rounds
 Inv-rounds g l =
     (contents (l .stack) ≡ []) × (l .states ≤ capacity (l .stack))
+    × Passed (l .states) (g .R·StepRule .steps (l .rule)) (g .S·StateSet .holds (l .set)) (l .starts)
     × Running (l .states) (globallyStep (l .states) (g .R·StepRule .steps (l .rule))) (below (l .states) (g .F·StateSet .holds (l .operand))) (count (l .states))
     (l .rounds) (g .S·StateSet .holds (l .set))
 

@@ -1,12 +1,13 @@
-use mathlib.Core.Path.{ap, _∙_}
+use mathlib.Core.Path.{sym, ap, _∙_}
 use mathlib.Core.Bool.{not, _&&_}
 use lib.Dec.{eqb, ltb}
 use lib.ListN.{length}
-use Rattle.std.proofs.shelf.Tests.{lt-ltb}
+use Rattle.std.proofs.shelf.Tests.{lt-ltb, and-parts}
 use Rattle.search.specs.Next.{into}
 use Rattle.search.specs.Rounds.{among, leaving}
 use Rattle.search.proofs.GloballyRound.{round-keeps}
 use Rattle.search.proofs.Lists.{among-below, some-below}
+use Rattle.search.proofs.Passed.{passed-fewer}
 use Rattle.search.proofs.globally_search.shrink.Needs as need
 
 pub returns : need.returns
@@ -22,4 +23,7 @@ returns g c =
       after = λ k.
           c .remove-all .ensures .after k ∙ ap (λ v. not v && z k) (ap (λ xs. among xs k) (c .push-leaving .ensures .after) ∙ among-below n p k)
           ∙ round-keeps (ltb k n) (z k) (into n steps z k) (λ e. lt-ltb k n (c .pre .below k e));
+      passed =
+          passed-fewer n steps z (g .S·StateSet .holds (c .remove-all .last .set)) (c .push-leaving .last .starts)
+          (λ k on. and-parts _ (z k) (sym (c .remove-all .ensures .after k) ∙ on) .1) (c .push-leaving .ensures .passed);
     }
