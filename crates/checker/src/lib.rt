@@ -1,0 +1,3 @@
+//! Judging formula lines: access between states, the evaluation of rows, and verdicts.
+
+pub mod access;
