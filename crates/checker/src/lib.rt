@@ -1,3 +1,4 @@
 //! Judging formula lines: access between states, the evaluation of rows, and verdicts.
 
 pub mod access;
+pub mod evaluation;
