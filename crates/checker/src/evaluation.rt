@@ -107,7 +107,8 @@ pub(crate) fn evaluate<'a, S: StateSet>(states: &'a [State], holders: &'a Holder
     requires few { ⌜ length (now states) ≤ 128 ⌝ }
     requires fits { ⌜ length (now states) ≤ S·StateSet .room ⌝ }
     requires slots { ⌜ 256 ≤ length (now slots) ⌝ }
-    ensures { λ r. ⌜ RowJudged (now (holders .entry)) (now (states .entry)) (setsIn (now (work .entry))) (row .operator) (row .operands) (S·StateSet .holds (now (set .exit))) r ⌝ }
+    ensures value { λ r. ⌜ RowJudged (now (holders .entry)) (now (states .entry)) (setsIn (now (work .entry))) (row .operator) (row .operands) (S·StateSet .holds (now (set .exit))) r ⌝ }
+    ensures bound { λ r. ⌜ r ≤ length (now (states .entry)) ⌝ }
 {
     let n = states.len();
     let Row { operator, operands: [a, b, c] } = row;

@@ -1,4 +1,5 @@
 //! Judging formula lines: access between states, the evaluation of rows, and verdicts.
 
 pub mod access;
-pub mod evaluation;
+mod evaluation;
+pub mod judging;

@@ -13,8 +13,11 @@ returns-in-Globally g c =
     let n = length ss in
     let m = g .S·StateSet .holds (c .globally-states .last .set) in
     let r = c .globally-states .result in
-    subst (λ o. RowJudged (c .args .holders .now) ss (setsIn (c .args .work .now)) o (c .args .row .operands) m r) (sym (c .in-Globally .is))
-    (subst (λ a. Settles n (globallyChain n (moveIn ss) (inBits a)) m r) (c .operand-in-Globally .ensures) (c .globally-states .ensures))
+    record {
+      value = subst (λ o. RowJudged (c .args .holders .now) ss (setsIn (c .args .work .now)) o (c .args .row .operands) m r) (sym (c .in-Globally .is))
+        (subst (λ a. Settles n (globallyChain n (moveIn ss) (inBits a)) m r) (c .operand-in-Globally .ensures) (c .globally-states .ensures));
+      bound = c .globally-states .ensures .bound;
+    }
 
 pub returns-in-Until : need.returns-in-Until
 returns-in-Until g c =
@@ -22,6 +25,9 @@ returns-in-Until g c =
     let n = length ss in
     let m = g .S·StateSet .holds (c .until-states .last .set) in
     let r = c .until-states .result in
-    subst (λ o. RowJudged (c .args .holders .now) ss (setsIn (c .args .work .now)) o (c .args .row .operands) m r) (sym (c .in-Until .is))
-    (subst (λ b. Settles n (untilChain n (moveIn ss) (setsIn (c .args .work .now) (getD (c .args .row .operands) 0 0)) (inBits b)) m r) (c .operand-in-Until-2 .ensures)
-    (subst (λ a. Settles n (untilChain n (moveIn ss) (inBits a) (inBits (c .operand-in-Until-2 .result .bits))) m r) (c .operand-in-Until .ensures) (c .until-states .ensures)))
+    record {
+      value = subst (λ o. RowJudged (c .args .holders .now) ss (setsIn (c .args .work .now)) o (c .args .row .operands) m r) (sym (c .in-Until .is))
+        (subst (λ b. Settles n (untilChain n (moveIn ss) (setsIn (c .args .work .now) (getD (c .args .row .operands) 0 0)) (inBits b)) m r) (c .operand-in-Until-2 .ensures)
+        (subst (λ a. Settles n (untilChain n (moveIn ss) (inBits a) (inBits (c .operand-in-Until-2 .result .bits))) m r) (c .operand-in-Until .ensures) (c .until-states .ensures)));
+      bound = c .until-states .ensures .bound;
+    }
