@@ -1,3 +1,4 @@
 pub mod Access
 pub mod Evaluation
 pub mod Judging
+pub mod Reporting

@@ -3,3 +3,4 @@
 pub mod access;
 mod evaluation;
 pub mod judging;
+pub mod reporting;
