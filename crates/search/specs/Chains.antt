@@ -1,7 +1,8 @@
 -- The chains of sets that `until` and `globally` run through, Z(0), Z(1), and so on.
 use mathlib.Core.Bool.{Bool, true, _||_, _&&_}
 use mathlib.Core.Path.{_≡_}
-use Prim.Native.Nat.{ℕ, zero, suc, _<_, _≤_}
+use Prim.Native.Nat.{ℕ, zero, suc, _*_, _<_, _≤_}
+use lib.Dec.{leb}
 use Rattle.sets.specs.Member.{Same}
 use Rattle.search.specs.Boolean.{below}
 use Rattle.search.specs.Next.{into}
@@ -37,3 +38,7 @@ pub record Settles (n : ℕ) (chain : ℕ → ℕ → Bool) (m : ℕ → Bool) (
 -- each state of m is one of f below n, with a step into m
 abbrev pub Inside : ℕ → (ℕ → ℕ → Bool) → (ℕ → Bool) → (ℕ → Bool) → Type 0
 Inside n steps f m = (k : ℕ) → m k ≡ true → (k < n) × (f k ≡ true) × (into n steps m k ≡ true)
+
+-- room for such a search over n states: in the set, in a byte for each state's number, and in two slots for each
+abbrev pub enough : ℕ → ℕ → ℕ → Bool
+enough n capacity slots = leb n capacity && (leb n 256 && leb (2 * n) slots)

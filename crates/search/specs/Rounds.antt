@@ -2,15 +2,11 @@
 use mathlib.Core.Bool.{Bool, true, false, _||_, _&&_, not, cond}
 use mathlib.Core.List.{List, [], _∷_, _++_}
 use mathlib.Core.Path.{_≡_}
-use Prim.Native.Nat.{ℕ, zero, suc, _*_, _<_, _≤_}
-use lib.Dec.{leb, eqb}
+use Prim.Native.Nat.{ℕ, zero, suc, _<_, _≤_}
+use lib.Dec.{eqb}
 use lib.ListN.{getD}
 use Rattle.sets.specs.Member.{count}
 use Rattle.search.specs.Next.{into}
-
--- room for n states: in the set, in a byte, and two slots for each
-abbrev pub enough : ℕ → ℕ → ℕ → Bool
-enough n capacity slots = leb n capacity && (leb n 256 && leb (2 * n) slots)
 
 -- the numbers below n that pass, rising
 abbrev pub listBelow : ℕ → (ℕ → Bool) → List ℕ

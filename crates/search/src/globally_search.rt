@@ -5,35 +5,16 @@ ghost use Prim.Native.Nat.{ℕ, _*_, _<_, _≤_};
 ghost use lib.ListN.{length};
 ghost use Rattle.sets.specs.Member.{Same};
 ghost use Rattle.std.specs.Options.{Cases, isSome};
-ghost use Rattle.search.specs.Chains.{globallyStep, globallyChain, Settles, Inside};
-ghost use Rattle.search.specs.Next.{any, into};
-ghost use Rattle.search.specs.Rounds.{leaving, Passed, listBelow, among, enough};
+ghost use Rattle.search.specs.Chains.{enough, globallyStep, globallyChain, Settles, Inside};
+ghost use Rattle.search.specs.Next.{any};
+ghost use Rattle.search.specs.Rounds.{leaving, Passed, listBelow, among};
 ghost use Rattle.search.specs.Stack.{contents, capacity};
 use crate::Stack;
 use crate::StepRule;
 use crate::copy;
+use crate::next_search::first_step;
 use crate::room::enough;
 use sets::StateSet;
-
-/// The first state from `start` on, and below `states`, that `set` has and `state` leads to.
-fn first_step<R: StepRule, S: StateSet>(
-    rule: &R,
-    states: usize,
-    state: usize,
-    start: usize,
-    set: &S,
-) -> Option<usize>
-    requires within { ⌜ start ≤ states ⌝ }
-    requires passed { ⌜ into start (steps (now rule)) (holds (now set)) state ≡ false ⌝ }
-    ensures { λ r. ⌜ Cases r (into states (steps (now (rule .entry))) (holds (now (set .entry))) state ≡ false) (λ to. (to < states) × (into to (steps (now (rule .entry))) (holds (now (set .entry))) state ≡ false) × (into states (steps (now (rule .entry))) (holds (now (set .entry))) state ≡ true)) ⌝ }
-{
-    for to in start..states {
-        if set.has(to) && rule.leads(state, to) {
-            return Some(to);
-        }
-    }
-    None
-}
 
 /// Whether `state` is one of `set` that has no step into it.
 /// The search for a step goes on where the last one ended, so that no step is asked for twice.

@@ -1,7 +1,7 @@
 use mathlib.Core.Path.{_≡_}
 use mathlib.Core.Bool.{false}
 use Rattle.search.specs.Next.{into}
-use Rattle.search.proofs.globally_search.first_step.Given as given
+use Rattle.search.proofs.next_search.first_step.Given as given
 
 abbrev pub Inv-loop-to : given.InvT-loop-to
 Inv-loop-to g l = into (l .to) (g .R·StepRule .steps (l .rule)) (g .S·StateSet .holds (l .set)) (l .state) ≡ false

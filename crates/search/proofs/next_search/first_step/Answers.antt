@@ -1,8 +1,8 @@
 use mathlib.Core.Path.{sym}
 use Rattle.std.proofs.shelf.Tests.{and-from, and-left, and-right}
 use Rattle.search.proofs.Quantifiers.{any-none-more, any-at}
-use Rattle.search.proofs.globally_search.first_step.Needs as need
-use Rattle.search.proofs.globally_search.first_step.Needs.{else-has·by·then-has·else-leads, else-has·by·else-has}
+use Rattle.search.proofs.next_search.first_step.Needs as need
+use Rattle.search.proofs.next_search.first_step.Needs.{else-has·by·then-has·else-leads, else-has·by·else-has}
 
 pub returns-then-leads : need.returns-then-leads
 returns-then-leads g c = (
