@@ -45,10 +45,10 @@ fn write_summary(writer: &mut Writer<'_>, summaries: &[u8], k: usize)
     requires { ⌜ (k < 64) × (192 ≤ length (now summaries)) ⌝ }
     ensures { λ _. ⌜ Gave (now (writer .entry)) (summaryText (now (summaries .entry)) k) (now (writer .exit)) ⌝ }
 {
-    let verdict = u32::from(summaries[3 * k]);
-    let rounds = u32::from(summaries[3 * k + 1]);
-    let members = u32::from(summaries[3 * k + 2]);
-    writer.line(b'R', &[k as u32, verdict, rounds, members]);
+    let verdict = usize::from(summaries[3 * k]);
+    let rounds = usize::from(summaries[3 * k + 1]);
+    let members = usize::from(summaries[3 * k + 2]);
+    writer.line(b'R', &[k, verdict, rounds, members]);
 }
 
 /// Writes the report lines of the first `lines` formula lines.

@@ -25,11 +25,11 @@ fn write_header(writer: &mut Writer<'_>, header: Header)
     ensures { λ _. ⌜ Gave (now (writer .entry)) (headerText header) (now (writer .exit)) ⌝ }
 {
     let counts = [
-        u32::from(header.number),
-        u32::from(header.parties),
-        u32::from(header.channels),
-        u32::from(header.states),
-        u32::from(header.marks),
+        usize::from(header.number),
+        usize::from(header.parties),
+        usize::from(header.channels),
+        usize::from(header.states),
+        usize::from(header.marks),
     ];
     writer.line(b'H', &counts);
 }
@@ -41,7 +41,7 @@ fn write_holder(writer: &mut Writer<'_>, holders: &Holders, channel: u8, party: 
     if !holders.has(usize::from(channel), usize::from(party)) {
         return;
     }
-    writer.line(b'C', &[u32::from(channel), u32::from(party)]);
+    writer.line(b'C', &[usize::from(channel), usize::from(party)]);
 }
 
 /// Writes the holders of one channel.
@@ -70,7 +70,7 @@ fn write_state(writer: &mut Writer<'_>, states: &[State], k: usize)
 {
     let state = states[k];
     let start = if state.start { 1 } else { 0 };
-    writer.line(b'S', &[k as u32, start, u32::from(state.marks)]);
+    writer.line(b'S', &[k, start, usize::from(state.marks)]);
 }
 
 /// Writes the lines of all states.
@@ -91,7 +91,7 @@ fn write_copy(writer: &mut Writer<'_>, holders: &Holders, party: u8, known: &Loc
     if !holders.has(usize::from(channel), usize::from(party)) {
         return;
     }
-    writer.field(u32::from(known.copies[usize::from(channel)]));
+    writer.field(usize::from(known.copies[usize::from(channel)]));
 }
 
 /// Writes the copies of all channels that the party holds.
@@ -109,7 +109,7 @@ fn write_known(writer: &mut Writer<'_>, holders: &Holders, k: usize, party: u8, 
     ensures { λ _. ⌜ Gave (now (writer .entry)) (knownText (now (holders .entry)) k party (now (known .entry))) (now (writer .exit)) ⌝ }
 {
     writer.byte(b'L');
-    writer.fields(&[k as u32, u32::from(party), u32::from(known.position)]);
+    writer.fields(&[k, usize::from(party), usize::from(known.position)]);
     write_copies(writer, holders, party, known);
     writer.byte(b'\n');
 }
@@ -153,7 +153,7 @@ fn write_move(writer: &mut Writer<'_>, states: &[State], from: usize, to: usize)
     if !moves.leads(from, to) {
         return;
     }
-    writer.line(b'T', &[from as u32, to as u32]);
+    writer.line(b'T', &[from, to]);
 }
 
 /// Writes the moves from one state.
@@ -185,7 +185,7 @@ fn write_operand(writer: &mut Writer<'_>, row: &Row, i: usize)
     let kinds = row.operator.kinds();
     match kinds[i] {
         Kind::Absent => {}
-        Kind::Mark | Kind::Party | Kind::Line => writer.field(u32::from(row.operands[i])),
+        Kind::Mark | Kind::Party | Kind::Line => writer.field(usize::from(row.operands[i])),
     }
 }
 
@@ -204,7 +204,7 @@ fn write_row(writer: &mut Writer<'_>, k: usize, row: &Row)
     ensures { λ _. ⌜ Gave (now (writer .entry)) (formulaText k (now (row .entry))) (now (writer .exit)) ⌝ }
 {
     writer.byte(b'F');
-    writer.field(k as u32);
+    writer.field(k);
     writer.byte(b',');
     writer.byte(row.operator.letter());
     write_operands(writer, row);

@@ -33,7 +33,7 @@ impl<'a> Writer<'a> {
     }
 
     /// Writes `n` in decimal.
-    pub fn number(&mut self, n: u32)
+    pub fn number(&mut self, n: usize)
         ensures { λ _. ⌜ Gave (now (self .entry)) (decimal n) (now (self .exit)) ⌝ }
     {
         if n >= 10 {
@@ -43,7 +43,7 @@ impl<'a> Writer<'a> {
     }
 
     /// Writes a comma and `n`.
-    pub fn field(&mut self, n: u32)
+    pub fn field(&mut self, n: usize)
         ensures { λ _. ⌜ Gave (now (self .entry)) (44 ∷ decimal n) (now (self .exit)) ⌝ }
     {
         self.byte(b',');
@@ -51,7 +51,7 @@ impl<'a> Writer<'a> {
     }
 
     /// Writes each number behind a comma.
-    pub fn fields(&mut self, numbers: &[u32])
+    pub fn fields(&mut self, numbers: &[usize])
         ensures { λ _. ⌜ Gave (now (self .entry)) (fieldsText (now (numbers .entry))) (now (self .exit)) ⌝ }
     {
         for n in numbers {
@@ -60,7 +60,7 @@ impl<'a> Writer<'a> {
     }
 
     /// Writes a line of a letter and numbers.
-    pub fn line(&mut self, letter: u8, numbers: &[u32])
+    pub fn line(&mut self, letter: u8, numbers: &[usize])
         ensures { λ _. ⌜ Gave (now (self .entry)) (lineText letter (now (numbers .entry))) (now (self .exit)) ⌝ }
     {
         self.byte(letter);
