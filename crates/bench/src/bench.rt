@@ -62,7 +62,12 @@ impl Bench {
     }
 
     /// Judges a formula line: leaves its states in `set`, and answers its verdict and rounds.
-    pub fn judge<S: StateSet>(&self, line: usize, work: &mut [u8], set: &mut S) -> Result<Judgement, Refusal>
+    pub fn judge<S: StateSet>(
+        &self,
+        line: usize,
+        work: &mut [u8],
+        set: &mut S,
+    ) -> Result<Judgement, Refusal>
         ensures refuses { λ r. ⌜ settled r ≡ judgeRefusal (length (statesOf (now (self .entry) .sheet))) (length (rowsOf (now (self .entry) .sheet))) line (length (now (work .entry))) room ⌝ }
         ensures unchanged { λ r. ⌜ refused r (λ _. now (set .exit) ≡ now (set .entry)) ⌝ }
         ensures verdict { λ r. ⌜ made r (λ j. j .verdict ≡ startsIn (length (statesOf (now (self .entry) .sheet))) (statesOf (now (self .entry) .sheet)) (holds (now (set .exit)))) ⌝ }
@@ -72,7 +77,12 @@ impl Bench {
 
     /// Writes a line for each formula line from the front of `out`, and answers the length of the text;
     /// later bytes stay, and the set is left empty.
-    pub fn report<S: StateSet>(&self, work: &mut [u8], set: &mut S, out: &mut [u8]) -> Result<usize, Refusal>
+    pub fn report<S: StateSet>(
+        &self,
+        work: &mut [u8],
+        set: &mut S,
+        out: &mut [u8],
+    ) -> Result<usize, Refusal>
         ensures unchanged { λ r. ⌜ refused r (λ _. (now (set .exit) ≡ now (set .entry)) × (now (out .exit) ≡ now (out .entry))) ⌝ }
         ensures done { λ r. ⌜ made r (λ n. (n ≤ length (now (out .exit))) × ((k : ℕ) → holds (now (set .exit)) k ≡ false)) ⌝ }
     {

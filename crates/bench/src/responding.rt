@@ -13,12 +13,24 @@ use texts::writer::Writer;
 fn write_fault(fault: Fault, writer: &mut Writer<'_>)
     ensures { λ _. ⌜ Gave (now (writer .entry)) (faultText fault) (now (writer .exit)) ⌝ }
 {
-    writer.line(b'E', &[usize::from(fault.refusal.code()), fault.place.line, fault.place.field]);
+    writer.line(
+        b'E',
+        &[
+            usize::from(fault.refusal.code()),
+            fault.place.line,
+            fault.place.field,
+        ],
+    );
 }
 
 /// Answers a sheet's text: its report from the front of `out`, or, where the text is refused, the line
 /// `E,number,line,field`; and the length of the answer. Refused where a buffer is too short.
-pub fn respond(bench: &mut Bench, text: &[u8], work: &mut [u8], out: &mut [u8]) -> Result<usize, Refusal> {
+pub fn respond(
+    bench: &mut Bench,
+    text: &[u8],
+    work: &mut [u8],
+    out: &mut [u8],
+) -> Result<usize, Refusal> {
     match bench.read(text) {
         Ok(()) => bench.report(work, &mut BitSet::new(), out),
         Err(fault) => {

@@ -16,7 +16,12 @@ fn run(rt: &LibcRuntime) -> Result<(), AnyError> {
     let _ = rt.stdin().take(MOST).read_to_end(&mut text)?;
     let mut work = vec![in heap; 0u8; 16_384]?;
     let mut out = vec![in heap; 0u8; 1024]?;
-    match respond(&mut bench, text.as_slice(), work.as_mut_slice(), out.as_mut_slice()) {
+    match respond(
+        &mut bench,
+        text.as_slice(),
+        work.as_mut_slice(),
+        out.as_mut_slice(),
+    ) {
         Ok(length) if length <= out.len() => {
             rt.stdout().write_all(&out.as_slice()[0..length])?;
             Ok(())
