@@ -13,7 +13,7 @@ use Rattle.texts.specs.Refusals.{codeOf}
 use Rattle.texts.specs.Written.{lineText}
 use Rattle.sheets.specs.declared.sheet.Sheet.{Sheet}
 use Rattle.sheets.specs.Sheets.{statesOf}
-use Rattle.sheets.specs.Writing.{textOf, writeResult, writeBuffer}
+use Rattle.writer.specs.Writing.{textOf, writeResult, writeBuffer}
 
 -- a blank sheet is not written
 abbrev pub writeAnswer : Sheet → List ℕ → Result ℕ Refusal

@@ -6,7 +6,7 @@ ghost use lib.Dec.{eqb};
 ghost use lib.ListN.{length};
 ghost use Rattle.std.specs.Vec.{made, refused};
 ghost use Rattle.sheets.specs.Sheets.{statesOf, rowsOf};
-ghost use Rattle.sheets.specs.Writing.{textOf};
+ghost use Rattle.writer.specs.Writing.{textOf};
 ghost use Rattle.checker.specs.Judging.{startsIn, judgeRefusal, settled};
 ghost use Rattle.bench.specs.Benches.{writeAnswer, writtenOut};
 use checker::judging::Judgement;
@@ -47,7 +47,7 @@ impl Bench {
     pub fn read(&mut self, text: &[u8]) -> Result<(), Fault>
         ensures { λ r. ⌜ refused r (λ _. now (self .exit) .sheet ≡ now (self .entry) .sheet) ⌝ }
     {
-        self.sheet.read(&mut self.spare, text)
+        reader::read(&mut self.sheet, &mut self.spare, text)
     }
 
     /// Writes the sheet's text from the front of `out`, and answers its length; later bytes stay.
@@ -58,7 +58,7 @@ impl Bench {
         if self.sheet.is_blank() {
             return Err(Refusal::Blank);
         }
-        self.sheet.write(out)
+        writer::write(&self.sheet, out)
     }
 
     /// Judges a formula line: leaves its states in `set`, and answers its verdict and rounds.

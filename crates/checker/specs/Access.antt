@@ -10,7 +10,7 @@ use Rattle.sheets.specs.declared.parts.Local.{Local}
 use Rattle.sheets.specs.declared.parts.State.{State}
 use Rattle.sheets.specs.Holding.{held, shareSome}
 use Rattle.sheets.specs.Moves.{noState}
-use Rattle.sheets.specs.Render.{noLocal}
+use Rattle.sheets.specs.Sheets.{noLocal}
 
 -- what party p knows at state s
 abbrev pub localAt : List State → ℕ → ℕ → Local

@@ -1,3 +1,1 @@
 pub mod Holding
-pub mod Copies
-pub mod Rows

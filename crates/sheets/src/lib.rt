@@ -1,10 +1,8 @@
-//! Commitment sheets: their data, the reader and the writer of their text.
+//! Commitment sheets as data.
 
 pub mod holders;
 pub mod moves;
 pub mod operator;
 pub mod parts;
-pub mod readers;
-pub mod row_reader;
 pub mod sheet;
 pub mod tables;

@@ -36,10 +36,3 @@ pub struct Row {
     pub operator: Operator,
     pub operands: [u8; 3],
 }
-
-/// Two numbers of a line whose kind must rise, first by the first number and then by the second.
-#[derive(Clone, Copy)]
-pub struct Pair {
-    pub first: u32,
-    pub second: u32,
-}

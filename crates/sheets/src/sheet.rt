@@ -5,8 +5,6 @@ ghost use Rattle.std.specs.Of.Vec.{vec-len, vec-items};
 ghost use Rattle.sheets.specs.Rows.{soundRows};
 
 mod access;
-mod reading;
-mod writing;
 
 use crate::holders::Holders;
 use crate::parts::Header;
@@ -15,9 +13,9 @@ use crate::tables::Tables;
 /// A commitment sheet, or, with no states, a blank one.
 #[derive(Drop)]
 pub struct Sheet {
-    header: Header,
-    holders: Holders,
-    tables: Tables,
+    pub header: Header,
+    pub holders: Holders,
+    pub tables: Tables,
     ghost all_states: { vec-len (tables .states) ≡ header .states },
     ghost few_states: { header .states ≤ 128 },
     ghost few_parties: { header .parties ≤ 6 },

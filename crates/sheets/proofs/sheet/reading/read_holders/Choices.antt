@@ -1,6 +1,0 @@
-use lib.ListN.{length}
-use denote.Ref.{now}
-use Rattle.sheets.proofs.sheet.reading.read_holders.Given as given
-
-abbrev pub μ-loop-line : given.MeasureT-loop-line
-μ-loop-line l = length (now (l .lines .rest))

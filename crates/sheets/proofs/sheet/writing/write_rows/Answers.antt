@@ -1,9 +1,0 @@
-use Rattle.texts.proofs.Writing.{texts-none, texts-more}
-use Rattle.sheets.specs.Render.{rowText}
-use Rattle.sheets.proofs.sheet.writing.write_rows.Needs as need
-
-pub loop-k-holds : need.loop-k-holds
-loop-k-holds c = texts-none (rowText (c .args .rows .now)) (c .args .writer .now) (c .args .writer .now .counted)
-
-pub loop-k-again : need.loop-k-again
-loop-k-again c = texts-more (rowText (c .args .rows .now)) (c .loop-k .k) (c .args .writer .now .counted) (c .loop-k .inv) (c .write-row .ensures)

@@ -1,0 +1,5 @@
+//! Writes a sheet's text.
+
+mod writing;
+
+pub use writing::write;
