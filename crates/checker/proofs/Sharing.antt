@@ -18,5 +18,6 @@ pub sharing-parties : (n : ℕ) (who : Holders) (p q : ℕ) → shareSome n who 
 unfolding shareSome
 sharing-parties zero who p q h = absurd (false≢true h)
 sharing-parties (suc n) who p q h = elim (or-cases (held who n p && held who n q) (shareSome n who p q) h) [
-    inl e ↦ (let a = and-parts (held who n p) (held who n q) e in (held-party who n p (a .0), held-party who n q (a .1)))
-  | inr e ↦ sharing-parties n who p q e ]
+  | inl e ↦ (let a = and-parts (held who n p) (held who n q) e in (held-party who n p (a .0), held-party who n q (a .1)))
+  | inr e ↦ sharing-parties n who p q e
+]

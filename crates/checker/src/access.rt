@@ -29,7 +29,10 @@ impl Access<'_> {
         let debtor_after = self.states[to].locals[self.debtor].copies[channel];
         let creditor_before = self.states[from].locals[self.creditor].copies[channel];
         let creditor_after = self.states[to].locals[self.creditor].copies[channel];
-        match (self.holders.has(channel, self.debtor), self.holders.has(channel, self.creditor)) {
+        match (
+            self.holders.has(channel, self.debtor),
+            self.holders.has(channel, self.creditor),
+        ) {
             (true, true) => debtor_before == debtor_after && debtor_before == creditor_after,
             (true, false) => debtor_before == debtor_after,
             (false, true) => creditor_before == creditor_after,
@@ -43,7 +46,8 @@ impl Access<'_> {
         requires parties { ⌜ (now self .debtor < 6) × (now self .creditor < 6) ⌝ }
         ensures { λ r. ⌜ r ≡ samePosition (now (now (self .entry) .states)) (now (self .entry) .debtor) from to ⌝ }
     {
-        self.states[from].locals[self.debtor].position == self.states[to].locals[self.debtor].position
+        self.states[from].locals[self.debtor].position
+            == self.states[to].locals[self.debtor].position
     }
 
     /// Whether the copies of all channels allow the step.

@@ -61,28 +61,57 @@ fn mark_states<S: StateSet>(states: &[State], mark: u8, set: &mut S)
 }
 
 /// Makes `set` the states where the debtor is committed to the creditor to bring about `content`.
-fn commitment<'a, S: StateSet>(states: &'a [State], holders: &'a Holders, debtor: u8, creditor: u8, content: &BitSet, set: &mut S)
+fn commitment<'a, S: StateSet>(
+    states: &'a [State],
+    holders: &'a Holders,
+    debtor: u8,
+    creditor: u8,
+    content: &BitSet,
+    set: &mut S,
+)
     requires { ⌜ length (now states) ≤ S·StateSet .room ⌝ }
     ensures { λ _. ⌜ Same (S·StateSet .holds (now (set .exit))) (committed (now (holders .entry)) (now (states .entry)) debtor creditor (inBits (now (content .entry) .bits))) ⌝ }
 {
-    let access = Access { states, holders, debtor: usize::from(debtor), creditor: usize::from(creditor) };
+    let access = Access {
+        states,
+        holders,
+        debtor: usize::from(debtor),
+        creditor: usize::from(creditor),
+    };
     let _ = every_next(&access, states.len(), content, set);
 }
 
 /// Makes `set` the states where that commitment is fulfilled.
-fn fulfilment<'a, S: StateSet>(states: &'a [State], holders: &'a Holders, debtor: u8, creditor: u8, content: &BitSet, set: &mut S)
+fn fulfilment<'a, S: StateSet>(
+    states: &'a [State],
+    holders: &'a Holders,
+    debtor: u8,
+    creditor: u8,
+    content: &BitSet,
+    set: &mut S,
+)
     requires few { ⌜ length (now states) ≤ 128 ⌝ }
     requires fits { ⌜ length (now states) ≤ S·StateSet .room ⌝ }
     ensures { λ _. ⌜ Same (S·StateSet .holds (now (set .exit))) (fulfilled (now (holders .entry)) (now (states .entry)) debtor creditor (inBits (now (content .entry) .bits))) ⌝ }
 {
-    let access = Access { states, holders, debtor: usize::from(debtor), creditor: usize::from(creditor) };
+    let access = Access {
+        states,
+        holders,
+        debtor: usize::from(debtor),
+        creditor: usize::from(creditor),
+    };
     let mut committed = BitSet::new();
     let _ = every_next(&access, states.len(), content, &mut committed);
     let _ = next(&Reversed(&access), states.len(), &committed, set);
 }
 
 /// Makes `set` the states with an endless path through `operand`, and answers the rounds.
-fn globally_states<S: StateSet>(states: &[State], operand: &BitSet, set: &mut S, slots: &mut [u8]) -> usize
+fn globally_states<S: StateSet>(
+    states: &[State],
+    operand: &BitSet,
+    set: &mut S,
+    slots: &mut [u8],
+) -> usize
     requires few { ⌜ length (now states) ≤ 128 ⌝ }
     requires fits { ⌜ length (now states) ≤ S·StateSet .room ⌝ }
     requires slots { ⌜ 256 ≤ length (now slots) ⌝ }
@@ -92,7 +121,13 @@ fn globally_states<S: StateSet>(states: &[State], operand: &BitSet, set: &mut S,
 }
 
 /// Makes `set` the states with a path through `first` to `second`, and answers the rounds.
-fn until_states<S: StateSet>(states: &[State], first: &BitSet, second: &BitSet, set: &mut S, slots: &mut [u8]) -> usize
+fn until_states<S: StateSet>(
+    states: &[State],
+    first: &BitSet,
+    second: &BitSet,
+    set: &mut S,
+    slots: &mut [u8],
+) -> usize
     requires few { ⌜ length (now states) ≤ 128 ⌝ }
     requires fits { ⌜ length (now states) ≤ S·StateSet .room ⌝ }
     requires slots { ⌜ 256 ≤ length (now slots) ⌝ }
@@ -103,7 +138,14 @@ fn until_states<S: StateSet>(states: &[State], first: &BitSet, second: &BitSet, 
 
 /// Makes `set` the states where a row holds, the sets of the lines before it being in the buffer, and
 /// answers how many rounds its search took.
-pub(crate) fn evaluate<'a, S: StateSet>(states: &'a [State], holders: &'a Holders, row: Row, work: &[u8], set: &mut S, slots: &mut [u8]) -> usize
+pub(crate) fn evaluate<'a, S: StateSet>(
+    states: &'a [State],
+    holders: &'a Holders,
+    row: Row,
+    work: &[u8],
+    set: &mut S,
+    slots: &mut [u8],
+) -> usize
     requires few { ⌜ length (now states) ≤ 128 ⌝ }
     requires fits { ⌜ length (now states) ≤ S·StateSet .room ⌝ }
     requires slots { ⌜ 256 ≤ length (now slots) ⌝ }
@@ -111,7 +153,10 @@ pub(crate) fn evaluate<'a, S: StateSet>(states: &'a [State], holders: &'a Holder
     ensures bound { λ r. ⌜ r ≤ length (now (states .entry)) ⌝ }
 {
     let n = states.len();
-    let Row { operator, operands: [a, b, c] } = row;
+    let Row {
+        operator,
+        operands: [a, b, c],
+    } = row;
     match operator {
         Operator::Mark => {
             mark_states(states, a, set);

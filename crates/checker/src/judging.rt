@@ -48,7 +48,14 @@ pub(crate) fn holds_at_starts<S: StateSet>(states: &[State], set: &S) -> bool
 }
 
 /// Evaluates the rows in turn, keeping the set of each in `sets`, and answers the rounds of the last one.
-fn judge_rows<'a, S: StateSet>(states: &'a [State], holders: &'a Holders, rows: &[Row], sets: &mut [u8], slots: &mut [u8], set: &mut S) -> usize
+fn judge_rows<'a, S: StateSet>(
+    states: &'a [State],
+    holders: &'a Holders,
+    rows: &[Row],
+    sets: &mut [u8],
+    slots: &mut [u8],
+    set: &mut S,
+) -> usize
     requires few { ⌜ length (now states) ≤ 128 ⌝ }
     requires fits { ⌜ length (now states) ≤ S·StateSet .room ⌝ }
     requires slots { ⌜ 256 ≤ length (now slots) ⌝ }
@@ -82,7 +89,12 @@ fn check_judge<S: StateSet>(sheet: &Sheet, line: usize, work: usize) -> Result<(
 }
 
 /// Judges a formula line: leaves its states in `set`, and answers its verdict and rounds.
-pub fn judge<S: StateSet>(sheet: &Sheet, line: usize, work: &mut [u8], set: &mut S) -> Result<Judgement, Refusal>
+pub fn judge<S: StateSet>(
+    sheet: &Sheet,
+    line: usize,
+    work: &mut [u8],
+    set: &mut S,
+) -> Result<Judgement, Refusal>
     ensures refuses { λ r. ⌜ settled r ≡ judgeRefusal (length (statesOf (now (sheet .entry)))) (length (rowsOf (now (sheet .entry)))) line (length (now (work .entry))) room ⌝ }
     ensures unchanged { λ r. ⌜ refused r (λ _. now (set .exit) ≡ now (set .entry)) ⌝ }
     ensures verdict { λ r. ⌜ made r (λ j. j .verdict ≡ startsIn (length (statesOf (now (sheet .entry)))) (statesOf (now (sheet .entry))) (holds (now (set .exit)))) ⌝ }
@@ -90,6 +102,16 @@ pub fn judge<S: StateSet>(sheet: &Sheet, line: usize, work: &mut [u8], set: &mut
     check_judge::<S>(sheet, line, work.len())?;
     let holders = sheet.holders();
     let (sets, slots) = work.split_at_mut(SETS_LENGTH);
-    let rounds = judge_rows(sheet.states(), &holders, &sheet.rows()[0..line + 1], sets, slots, set);
-    Ok(Judgement { verdict: holds_at_starts(sheet.states(), set), rounds })
+    let rounds = judge_rows(
+        sheet.states(),
+        &holders,
+        &sheet.rows()[0..line + 1],
+        sets,
+        slots,
+        set,
+    );
+    Ok(Judgement {
+        verdict: holds_at_starts(sheet.states(), set),
+        rounds,
+    })
 }

@@ -24,7 +24,14 @@ use workspace::put_row;
 
 /// Evaluates all rows in turn, keeping the set of each in `sets` and, in three bytes of `summaries` for
 /// each, its verdict, its rounds and the number of its states.
-fn summarize<'a>(states: &'a [State], holders: &'a Holders, rows: &[Row], sets: &mut [u8], slots: &mut [u8], summaries: &mut [u8])
+fn summarize<'a>(
+    states: &'a [State],
+    holders: &'a Holders,
+    rows: &[Row],
+    sets: &mut [u8],
+    slots: &mut [u8],
+    summaries: &mut [u8],
+)
     requires states { ⌜ length (now states) ≤ 128 ⌝ }
     requires rows { ⌜ length (now rows) ≤ 64 ⌝ }
     requires slots { ⌜ 256 ≤ length (now slots) ⌝ }
@@ -63,7 +70,12 @@ fn write_summaries(writer: &mut Writer<'_>, summaries: &[u8], lines: usize)
 
 /// Writes a line for each formula line of the sheet from the front of `out`, and answers the length of the
 /// text; later bytes stay, and the set is left empty.
-pub fn report<S: StateSet>(sheet: &Sheet, work: &mut [u8], set: &mut S, out: &mut [u8]) -> Result<usize, Refusal>
+pub fn report<S: StateSet>(
+    sheet: &Sheet,
+    work: &mut [u8],
+    set: &mut S,
+    out: &mut [u8],
+) -> Result<usize, Refusal>
     ensures unchanged { λ r. ⌜ refused r (λ _. (now (set .exit) ≡ now (set .entry)) × (now (out .exit) ≡ now (out .entry))) ⌝ }
     ensures done { λ r. ⌜ made r (λ n. (n ≤ length (now (out .exit))) × ((k : ℕ) → holds (now (set .exit)) k ≡ false)) ⌝ }
 {
@@ -76,7 +88,14 @@ pub fn report<S: StateSet>(sheet: &Sheet, work: &mut [u8], set: &mut S, out: &mu
     let holders = sheet.holders();
     let (sets, rest) = work.split_at_mut(1024);
     let (slots, summaries) = rest.split_at_mut(256);
-    summarize(sheet.states(), &holders, sheet.rows(), sets, slots, summaries);
+    summarize(
+        sheet.states(),
+        &holders,
+        sheet.rows(),
+        sets,
+        slots,
+        summaries,
+    );
     let lines = sheet.rows().len();
     let mut measure = Writer::new(&mut []);
     write_summaries(&mut measure, summaries, lines);

@@ -31,7 +31,7 @@ top x h = omega arith
 pub number-bytes : (x : ℕ) → x < 2 ^ 128 → number (bytesOf x) ≡ x
 unfolding number
 number-bytes x h = rw (top x h) (glue x (x / 256) (x / 65536) (x / 16777216) (x / 4294967296) (x / 1099511627776) (x / 281474976710656) (x / 72057594037927936) (x / 18446744073709551616) (x / 4722366482869645213696) (x / 1208925819614629174706176) (x / 309485009821345068724781056) (x / 79228162514264337593543950336) (x / 20282409603651670423947251286016) (x / 5192296858534827628530496329220096) (x / 1329227995784915872903807060280344576) (x % 256) (x / 256 % 256) (x / 65536 % 256) (x / 16777216 % 256) (x / 4294967296 % 256) (x / 1099511627776 % 256) (x / 281474976710656 % 256) (x / 72057594037927936 % 256) (x / 18446744073709551616 % 256) (x / 4722366482869645213696 % 256) (x / 1208925819614629174706176 % 256) (x / 309485009821345068724781056 % 256) (x / 79228162514264337593543950336 % 256) (x / 20282409603651670423947251286016 % 256) (x / 5192296858534827628530496329220096 % 256)
-  (first x) (step x 256) (step x 65536) (step x 16777216) (step x 4294967296) (step x 1099511627776) (step x 281474976710656) (step x 72057594037927936) (step x 18446744073709551616) (step x 4722366482869645213696) (step x 1208925819614629174706176) (step x 309485009821345068724781056) (step x 79228162514264337593543950336) (step x 20282409603651670423947251286016) (step x 5192296858534827628530496329220096))
+    (first x) (step x 256) (step x 65536) (step x 16777216) (step x 4294967296) (step x 1099511627776) (step x 281474976710656) (step x 72057594037927936) (step x 18446744073709551616) (step x 4722366482869645213696) (step x 1208925819614629174706176) (step x 309485009821345068724781056) (step x 79228162514264337593543950336) (step x 20282409603651670423947251286016) (step x 5192296858534827628530496329220096))
 
 pub sixteen : (k : ℕ) → 16 ≡ (16 * k + 16) - 16 * k
 sixteen k = omega arith
@@ -45,10 +45,12 @@ module _ (xs ys : List ℕ) (k : ℕ) (fits : 16 * k + 16 ≤ length xs) (len : 
   pub row-other : (j : ℕ) → (j ≡ k → ⊥) → rowOf (putMid (16 * k) 16 xs ys) j ≡ rowOf xs j
   unfolding rowOf
   row-other j ne = elim (cases-order j k) [
-      inl e ↦ absurd (ne e)
+    | inl e ↦ absurd (ne e)
     | inr o ↦ elim o [
-        inl lt ↦ ap number (sym (drop-take (16 * j) 16 (putMid (16 * k) 16 xs ys)) ∙ ap (drop (16 * j)) (take-putMid-below (16 * k) 16 xs ys (16 * j + 16) (omega arith) (omega arith)) ∙ drop-take (16 * j) 16 xs)
-      | inr gt ↦ ap (λ l. number (take 16 l)) (drop-putMid (16 * k) 16 xs ys (16 * j) (omega arith) (omega arith) len) ] ]
+      | inl lt ↦ ap number (sym (drop-take (16 * j) 16 (putMid (16 * k) 16 xs ys)) ∙ ap (drop (16 * j)) (take-putMid-below (16 * k) 16 xs ys (16 * j + 16) (omega arith) (omega arith)) ∙ drop-take (16 * j) 16 xs)
+      | inr gt ↦ ap (λ l. number (take 16 l)) (drop-putMid (16 * k) 16 xs ys (16 * j) (omega arith) (omega arith) len)
+    ]
+  ]
 
 -- the same with the part's length as the code has it
 pub record Written (xs ws : List ℕ) (k bits : ℕ) : Type 0 where

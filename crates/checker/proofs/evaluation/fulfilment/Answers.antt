@@ -17,7 +17,7 @@ returns g c = λ k.
     let on : c .every-next .result ≡ true = c .every-next .ensures .fits ∙ le-leb n 128 (c .pre .few) in
     let on′ : c .next .result ≡ true = c .next .ensures .fits ∙ le-leb n (g .S·StateSet .room) (c .pre .fits) in
     let inner : inBits (c .every-next .last .set .bits) ≡ everyNext n (fulfilmentAccess who ss (c .from .result) (c .from-2 .result)) (inBits (c .args .content .now .bits)) =
-          fun-ext (λ s. c .every-next .ensures .after s ∙ when-done (c .every-next .result) _ _ on s) in
+    fun-ext (λ s. c .every-next .ensures .after s ∙ when-done (c .every-next .result) _ _ on s) in
     c .next .ensures .after k ∙ when-done (c .next .result) _ _ on′ k
     ∙ ap (λ m. someNext n (λ s t. fulfilmentAccess who ss (c .from .result) (c .from-2 .result) t s) m k) inner
     ∙ ap (λ i. someNext n (λ s t. fulfilmentAccess who ss i (c .from-2 .result) t s) (everyNext n (fulfilmentAccess who ss i (c .from-2 .result)) (inBits (c .args .content .now .bits))) k) (c .from .ensures)

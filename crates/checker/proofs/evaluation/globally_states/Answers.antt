@@ -14,4 +14,4 @@ returns g c =
     let Q : ℕ → Type 0 = λ r. Settles n (globallyChain n (moveIn ss) (inBits (c .args .operand .now .bits))) (g .S·StateSet .holds (c .globally .last .set)) r in
     subst Q (sym (c .unwrap-or .ensures))
     (has-room n (g .S·StateSet .room) (length (c .args .slots .now)) (c .globally .result) (c .globally .last .set ≡ c .args .set .now) Q
-      (c .pre .few) (c .pre .fits) (c .pre .slots) (c .globally .ensures .fits) (c .globally .ensures .after))
+    (c .pre .few) (c .pre .fits) (c .pre .slots) (c .globally .ensures .fits) (c .globally .ensures .after))

@@ -14,4 +14,4 @@ returns g c =
     let Q : ℕ → Type 0 = λ r. Settles n (untilChain n (moveIn ss) (inBits (c .args .first .now .bits)) (inBits (c .args .second .now .bits))) (g .S·StateSet .holds (c .until .last .set)) r in
     subst Q (sym (c .unwrap-or .ensures))
     (has-room n (g .S·StateSet .room) (length (c .args .slots .now)) (c .until .result) (c .until .last .set ≡ c .args .set .now) Q
-      (c .pre .few) (c .pre .fits) (c .pre .slots) (c .until .ensures .fits) (c .until .ensures .after))
+    (c .pre .few) (c .pre .fits) (c .pre .slots) (c .until .ensures .fits) (c .until .ensures .after))

@@ -1,0 +1,3 @@
+pub mod Quantifiers
+pub mod Counts
+pub mod Settling
