@@ -1,3 +1,11 @@
 pub mod Sets
 pub mod Chains
 pub mod Settling
+pub mod Turns
+pub mod Sheets
+pub mod Access
+pub mod Validity
+pub mod Paths
+pub mod Formulas
+pub mod Judging
+pub mod Truth
