@@ -5,3 +5,6 @@ pub mod Turns
 pub mod Paths
 pub mod Searches
 pub mod Truth
+pub mod AccessLaws
+pub mod Actions
+pub mod Resolving

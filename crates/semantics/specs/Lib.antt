@@ -9,3 +9,9 @@ pub mod Paths
 pub mod Formulas
 pub mod Judging
 pub mod Truth
+pub mod AccessLaws
+pub mod Actions
+pub mod Queries
+pub mod Resolving
+pub mod Reduction
+pub mod Roads

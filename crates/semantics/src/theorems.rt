@@ -1,6 +1,8 @@
 // Each function holds one theorem in its contract.
 ghost use Rattle.semantics.specs.Settling.{Until-settles, Globally-settles};
 ghost use Rattle.semantics.specs.Truth.{Sets-are-truth};
+ghost use Rattle.semantics.specs.AccessLaws.{Access-transitive, Access-Euclidean, Access-shift-reflexive, Fulfilment-commits, Fulfilment-only-of-commitments};
+ghost use Rattle.semantics.specs.Resolving.{Query-sets-are-truth};
 
 pub fn until_settles_stands() -> u8
     ensures { λ _. ⌜ Until-settles ⌝ }
@@ -16,6 +18,42 @@ pub fn globally_settles_stands() -> u8
 
 pub fn sets_are_truth_stands() -> u8
     ensures { λ _. ⌜ Sets-are-truth ⌝ }
+{
+    0
+}
+
+pub fn access_transitive_stands() -> u8
+    ensures { λ _. ⌜ Access-transitive ⌝ }
+{
+    0
+}
+
+pub fn access_euclidean_stands() -> u8
+    ensures { λ _. ⌜ Access-Euclidean ⌝ }
+{
+    0
+}
+
+pub fn access_shift_reflexive_stands() -> u8
+    ensures { λ _. ⌜ Access-shift-reflexive ⌝ }
+{
+    0
+}
+
+pub fn fulfilment_commits_stands() -> u8
+    ensures { λ _. ⌜ Fulfilment-commits ⌝ }
+{
+    0
+}
+
+pub fn fulfilment_only_of_commitments_stands() -> u8
+    ensures { λ _. ⌜ Fulfilment-only-of-commitments ⌝ }
+{
+    0
+}
+
+pub fn query_sets_are_truth_stands() -> u8
+    ensures { λ _. ⌜ Query-sets-are-truth ⌝ }
 {
     0
 }
