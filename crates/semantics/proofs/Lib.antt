@@ -8,3 +8,5 @@ pub mod Truth
 pub mod AccessLaws
 pub mod Actions
 pub mod Resolving
+pub mod ReducedLines
+pub mod Roads

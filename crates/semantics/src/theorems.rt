@@ -3,6 +3,7 @@ ghost use Rattle.semantics.specs.Settling.{Until-settles, Globally-settles};
 ghost use Rattle.semantics.specs.Truth.{Sets-are-truth};
 ghost use Rattle.semantics.specs.AccessLaws.{Access-transitive, Access-Euclidean, Access-shift-reflexive, Fulfilment-commits, Fulfilment-only-of-commitments};
 ghost use Rattle.semantics.specs.Resolving.{Query-sets-are-truth};
+ghost use Rattle.semantics.specs.Roads.{Two-roads};
 
 pub fn until_settles_stands() -> u8
     ensures { λ _. ⌜ Until-settles ⌝ }
@@ -54,6 +55,12 @@ pub fn fulfilment_only_of_commitments_stands() -> u8
 
 pub fn query_sets_are_truth_stands() -> u8
     ensures { λ _. ⌜ Query-sets-are-truth ⌝ }
+{
+    0
+}
+
+pub fn two_roads_stands() -> u8
+    ensures { λ _. ⌜ Two-roads ⌝ }
 {
     0
 }
