@@ -10,3 +10,7 @@ pub mod Actions
 pub mod Resolving
 pub mod ReducedLines
 pub mod Roads
+pub mod Decided
+pub mod Walks
+pub mod Lassos
+pub mod Evidence

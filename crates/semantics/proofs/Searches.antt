@@ -70,15 +70,23 @@ module _ (n : ℕ) (steps : ℕ → ℕ → Bool) (Step : ℕ → ℕ → Type 0
     globally-first zero s e = let x = and-parts (ltb s n) (a s) e in each s .0 (x .1)
     globally-first (suc k) s e = globally-first k s (and-parts (globallyChain n steps a k s) _ e .0)
 
-    globally-out : (s : ℕ) → settled n (globallyChain n steps a) s ≡ true → (s < n) × (Globally n Step P s)
+    pub globally-inside : (s : ℕ) → settled n (globallyChain n steps a) s ≡ true → (s < n) × (P s)
     unfolding settled
+    globally-inside s e = globally-first (rounds n (globallyChain n steps a)) s e
+
+    -- each state of the settled set has a step into it
+    pub globally-closed : (s : ℕ) → settled n (globallyChain n steps a) s ≡ true →
+        (t : ℕ) × (t < n) × (settled n (globallyChain n steps a) t ≡ true) × (Step s t)
+    unfolding settled
+    globally-closed s e =
+        let z = globallyChain n steps a (rounds n (globallyChain n steps a)) in
+        into-found z s (and-parts (z s) (into n steps z s) (globally-settles n steps a .settled s ∙ e) .1)
+
+    globally-out : (s : ℕ) → settled n (globallyChain n steps a) s ≡ true → (s < n) × (Globally n Step P s)
     globally-out s e =
-        let r = rounds n (globallyChain n steps a) in
-        let z = globallyChain n steps a r in
-        let l = globally-first r s e .0 in
-        let x = endless n Step (λ t. z t ≡ true)
-        (λ t _ on. into-found z t (and-parts (z t) (into n steps z t) (globally-settles n steps a .settled t ∙ on) .1)) s l e in
-        (l, (x .0, x .1, λ k. globally-first r (x .0 k) (x .2 k) .1))
+        let l = globally-inside s e .0 in
+        let x = endless n Step (λ t. settled n (globallyChain n steps a) t ≡ true) (λ t _ on. globally-closed t on) s l e in
+        (l, (x .0, x .1, λ k. globally-inside (x .0 k) (x .2 k) .1))
 
     globally-in : (s : ℕ) (x : Globally n Step P s) (k i : ℕ) → globallyChain n steps a k (x .0 i) ≡ true
     globally-in s x zero i =

@@ -47,7 +47,7 @@ module _ (h : Sheet) (v : Valid h) (zs : List (ℕ → Bool)) (fs : List Formula
       every-means (h .states) (commitmentAccess h i j) (Leads (commitmentAccess h i j)) (rule-says (commitmentAccess h i j))
       (getD zs a nothing) (Holds h (getD fs a falsity)) (operand a)
 
-  line-truly : (l : Line) → Truly h (setOf h zs l) (treeOf fs l)
+  pub line-truly : (l : Line) → Truly h (setOf h zs l) (treeOf fs l)
   unfolding Holds
   line-truly (mark m) = below-means (h .states) (marked h m) _ (λ s _. (λ e. e, λ e. e))
   line-truly (negation a) =

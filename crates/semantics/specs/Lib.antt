@@ -15,3 +15,4 @@ pub mod Queries
 pub mod Resolving
 pub mod Reduction
 pub mod Roads
+pub mod Evidence

@@ -4,6 +4,7 @@ ghost use Rattle.semantics.specs.Truth.{Sets-are-truth};
 ghost use Rattle.semantics.specs.AccessLaws.{Access-transitive, Access-Euclidean, Access-shift-reflexive, Fulfilment-commits, Fulfilment-only-of-commitments};
 ghost use Rattle.semantics.specs.Resolving.{Query-sets-are-truth};
 ghost use Rattle.semantics.specs.Roads.{Two-roads};
+ghost use Rattle.semantics.specs.Evidence.{Evidence-where-due};
 
 pub fn until_settles_stands() -> u8
     ensures { λ _. ⌜ Until-settles ⌝ }
@@ -61,6 +62,12 @@ pub fn query_sets_are_truth_stands() -> u8
 
 pub fn two_roads_stands() -> u8
     ensures { λ _. ⌜ Two-roads ⌝ }
+{
+    0
+}
+
+pub fn evidence_where_due_stands() -> u8
+    ensures { λ _. ⌜ Evidence-where-due ⌝ }
 {
     0
 }
