@@ -16,3 +16,11 @@ pub mod Resolving
 pub mod Reduction
 pub mod Roads
 pub mod Evidence
+pub mod Written
+pub mod SheetText
+pub mod QueryText
+pub mod Faults
+pub mod Cuts
+pub mod Numbers
+pub mod QueryReading
+pub mod ReadBack
