@@ -4,7 +4,7 @@ use mathlib.Core.List.{List}
 use Prim.Native.Nat.{ℕ}
 use lib.Dec.{eqb, ltb}
 use lib.ListN.{length, getD}
-use Rattle.search.specs.Next.{all}
+use Rattle.semantics.specs.Sets.{all}
 use Rattle.sheets.specs.declared.holders.Holders.{Holders}
 use Rattle.sheets.specs.declared.parts.Local.{Local}
 use Rattle.sheets.specs.declared.parts.State.{State}

@@ -5,10 +5,9 @@ use mathlib.Core.List.{List, [], _∷_}
 use Prim.Native.Nat.{ℕ}
 use lib.ListN.{length, getD}
 use Rattle.sets.specs.Bits.{inBits}
-use Rattle.sets.specs.Member.{Same, union}
-use Rattle.search.specs.Boolean.{below, outside}
-use Rattle.search.specs.Chains.{untilChain, globallyChain, Settles}
-use Rattle.search.specs.Next.{someNext, everyNext}
+use Rattle.semantics.specs.Sets.{Same, union, below, outside, someNext, everyNext}
+use Rattle.semantics.specs.Chains.{untilChain, globallyChain}
+use Rattle.search.specs.Searches.{Found}
 use Rattle.workspace.specs.Rows.{rowIn}
 use Rattle.sheets.specs.declared.holders.Holders.{Holders}
 use Rattle.sheets.specs.declared.operator.Operator.{Operator}
@@ -46,7 +45,7 @@ RowJudged who ss t Mark xs m r = Same m (below (length ss) (marked ss (getD xs 0
 RowJudged who ss t Not xs m r = Same m (below (length ss) (outside (t (getD xs 0 0)))) × (r ≡ 0)
 RowJudged who ss t Or xs m r = Same m (below (length ss) (union (t (getD xs 0 0)) (t (getD xs 1 0)))) × (r ≡ 0)
 RowJudged who ss t Next xs m r = Same m (someNext (length ss) (moveIn ss) (t (getD xs 0 0))) × (r ≡ 0)
-RowJudged who ss t Globally xs m r = Settles (length ss) (globallyChain (length ss) (moveIn ss) (t (getD xs 0 0))) m r
-RowJudged who ss t Until xs m r = Settles (length ss) (untilChain (length ss) (moveIn ss) (t (getD xs 0 0)) (t (getD xs 1 0))) m r
+RowJudged who ss t Globally xs m r = Found (length ss) (globallyChain (length ss) (moveIn ss) (t (getD xs 0 0))) m r
+RowJudged who ss t Until xs m r = Found (length ss) (untilChain (length ss) (moveIn ss) (t (getD xs 0 0)) (t (getD xs 1 0))) m r
 RowJudged who ss t Commitment xs m r = Same m (committed who ss (getD xs 0 0) (getD xs 1 0) (t (getD xs 2 0))) × (r ≡ 0)
 RowJudged who ss t Fulfilment xs m r = Same m (fulfilled who ss (getD xs 0 0) (getD xs 1 0) (t (getD xs 2 0))) × (r ≡ 0)

@@ -8,7 +8,7 @@ use Rattle.std.specs.declared.result.Result.{Result}
 use Rattle.std.specs.declared.result.Result.the-variants.{Ok, Err}
 use Rattle.texts.specs.declared.refusal.Refusal.{Refusal}
 use Rattle.texts.specs.declared.refusal.Refusal.the-variants.{Blank, NoSuchLine, ShortBuffer, SetTooSmall}
-use Rattle.search.specs.Next.{all}
+use Rattle.semantics.specs.Sets.{all}
 use Rattle.sheets.specs.declared.parts.State.{State}
 use Rattle.sheets.specs.Moves.{noState}
 

@@ -2,9 +2,9 @@ ghost use mathlib.Core.Path.{_≡_};
 ghost use Prim.Native.Nat.{ℕ, _≤_};
 ghost use lib.ListN.{length};
 ghost use Rattle.sets.specs.Bits.{inBits};
-ghost use Rattle.sets.specs.Member.{Same};
-ghost use Rattle.search.specs.Boolean.{below};
-ghost use Rattle.search.specs.Chains.{Settles, globallyChain, untilChain};
+ghost use Rattle.semantics.specs.Sets.{Same, below};
+ghost use Rattle.search.specs.Searches.{Found};
+ghost use Rattle.semantics.specs.Chains.{globallyChain, untilChain};
 ghost use Rattle.sheets.specs.Moves.{moveIn};
 ghost use Rattle.workspace.specs.Rows.{rowIn};
 ghost use Rattle.checker.specs.Evaluation.{setsIn, marked, committed, fulfilled, RowJudged};
@@ -115,7 +115,7 @@ fn globally_states<S: StateSet>(
     requires few { ⌜ length (now states) ≤ 128 ⌝ }
     requires fits { ⌜ length (now states) ≤ S·StateSet .room ⌝ }
     requires slots { ⌜ 256 ≤ length (now slots) ⌝ }
-    ensures { λ r. ⌜ Settles (length (now (states .entry))) (globallyChain (length (now (states .entry))) (moveIn (now (states .entry))) (inBits (now (operand .entry) .bits))) (S·StateSet .holds (now (set .exit))) r ⌝ }
+    ensures { λ r. ⌜ Found (length (now (states .entry))) (globallyChain (length (now (states .entry))) (moveIn (now (states .entry))) (inBits (now (operand .entry) .bits))) (S·StateSet .holds (now (set .exit))) r ⌝ }
 {
     globally(&Moves { states }, states.len(), operand, set, slots).unwrap_or(0)
 }
@@ -131,7 +131,7 @@ fn until_states<S: StateSet>(
     requires few { ⌜ length (now states) ≤ 128 ⌝ }
     requires fits { ⌜ length (now states) ≤ S·StateSet .room ⌝ }
     requires slots { ⌜ 256 ≤ length (now slots) ⌝ }
-    ensures { λ r. ⌜ Settles (length (now (states .entry))) (untilChain (length (now (states .entry))) (moveIn (now (states .entry))) (inBits (now (first .entry) .bits)) (inBits (now (second .entry) .bits))) (S·StateSet .holds (now (set .exit))) r ⌝ }
+    ensures { λ r. ⌜ Found (length (now (states .entry))) (untilChain (length (now (states .entry))) (moveIn (now (states .entry))) (inBits (now (first .entry) .bits)) (inBits (now (second .entry) .bits))) (S·StateSet .holds (now (set .exit))) r ⌝ }
 {
     until(&Moves { states }, states.len(), first, second, set, slots).unwrap_or(0)
 }

@@ -11,7 +11,7 @@ use Rattle.texts.specs.declared.refusal.Fault.{Fault}
 use Rattle.texts.specs.declared.refusal.Refusal.the-variants.{NoStart, NoMove}
 use Rattle.texts.specs.Fields.{faultAt}
 use Rattle.texts.specs.Lines.{at}
-use Rattle.search.specs.Next.{hasStep}
+use Rattle.semantics.specs.Sets.{hasStep}
 use Rattle.sheets.specs.declared.holders.Holders.{Holders}
 use Rattle.sheets.specs.declared.parts.Header.{Header}
 use Rattle.sheets.specs.declared.parts.State.{State}

@@ -9,10 +9,10 @@ use lib.Dec.{eqb, ltb}
 use lib.ListN.{length}
 use Rattle.std.proofs.shelf.Tests.{and-parts, cases-bool, cond-true, eq-eqb, eqb-true, le-ltb, lt-ltb, not-true, or-left}
 use Rattle.std.proofs.shelf.Ways.{tells}
-use Rattle.sets.specs.Member.{Same, plus}
+use Rattle.sets.specs.Member.{plus}
+use Rattle.semantics.specs.Sets.{Same, outside}
 use Rattle.sets.proofs.CountLaws.{count-falls}
 use Rattle.sets.proofs.MemberLaws.{cond-on}
-use Rattle.search.specs.Boolean.{outside}
 use Rattle.search.specs.Rounds.{among, lacks}
 use Rattle.search.specs.Stack.{contents, capacity}
 use Rattle.search.specs.declared.stack.Stack.{Stack}

@@ -6,8 +6,7 @@ use Prim.Native.Nat.{ℕ}
 use native.Mathlib.Omega.{arith}
 use lib.Dec.{ltb}
 use Rattle.std.proofs.shelf.Tests.{or-left}
-use Rattle.sets.specs.Member.{Same}
-use Rattle.search.specs.Boolean.{below}
+use Rattle.semantics.specs.Sets.{Same, below}
 use Rattle.search.specs.Rounds.{among, intoList}
 use Rattle.search.proofs.Lists.{or-assoc, or-false}
 

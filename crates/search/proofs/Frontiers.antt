@@ -6,11 +6,9 @@ use mathlib.Core.List.{List, [], _∷_}
 use Prim.Native.Nat.{ℕ}
 use lib.Dec.{eqb, ltb}
 use Rattle.std.proofs.shelf.Tests.{and-from, and-parts, both-ways, cases-bool, eq-eqb, eqb-true, false≢true, lt-ltb, ltb-true, not-from-false, not-true, or-cases, or-left, or-right}
-use Rattle.sets.specs.Member.{Same}
+use Rattle.semantics.specs.Sets.{Same, below, into}
 use Rattle.sets.proofs.MemberLaws.{same-from}
-use Rattle.search.specs.Boolean.{below}
-use Rattle.search.specs.Chains.{untilStep}
-use Rattle.search.specs.Next.{into}
+use Rattle.semantics.specs.Chains.{untilStep}
 use Rattle.search.specs.Rounds.{among, intoList, listBelow, Frontier}
 use Rattle.search.proofs.Lists.{among-below}
 use Rattle.search.proofs.Quantifiers.{any-at, any-found}

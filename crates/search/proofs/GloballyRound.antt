@@ -6,11 +6,11 @@ use Prim.Native.Nat.{ℕ, zero, suc, _<_}
 use native.Mathlib.Omega.{arith}
 use lib.Dec.{ltb}
 use Rattle.std.proofs.shelf.Tests.{cases-bool, and-parts, and-right, not-true, ltb-true, both-ways}
-use Rattle.sets.specs.Member.{Same, count}
+use Rattle.semantics.specs.Sets.{Same, count, below, any, into}
 use Rattle.sets.proofs.CountLaws.{count-falls}
-use Rattle.search.specs.Boolean.{below}
-use Rattle.search.specs.Chains.{globallyStep, globallyChain, Settles, Inside}
-use Rattle.search.specs.Next.{any, into}
+use Rattle.search.specs.Searches.{Inside}
+use Rattle.semantics.specs.Chains.{globallyStep, globallyChain}
+use Rattle.semantics.specs.Settling.{Settles}
 use Rattle.search.specs.Rounds.{leaving}
 use Rattle.search.proofs.Quantifiers.{any-found, any-none}
 

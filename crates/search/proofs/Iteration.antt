@@ -5,8 +5,9 @@ use Prim.Native.Nat.{ℕ, suc, _+_, _<_, _≤_}
 use native.Mathlib.Numerals.{add-one}
 use native.Mathlib.Omega.{arith}
 use borrow.Author.Count.{below-more}
-use Rattle.sets.specs.Member.{Same}
-use Rattle.search.specs.Chains.{iterate, Settles}
+use Rattle.semantics.specs.Sets.{Same}
+use Rattle.semantics.specs.Chains.{iterate}
+use Rattle.semantics.specs.Settling.{Settles}
 
 -- after r rounds the set is Z(r), and each round before changed it
 pub record Running (n : ℕ) (step : (ℕ → Bool) → ℕ → Bool) (start : ℕ → Bool) (size : (ℕ → Bool) → ℕ) (r : ℕ) (z : ℕ → Bool) : Type 0 where

@@ -8,3 +8,4 @@ pub mod Passed
 pub mod Quantifiers
 pub mod StackLaws
 pub mod UntilRound
+pub mod Uniqueness

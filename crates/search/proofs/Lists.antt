@@ -10,7 +10,7 @@ use lib.Dec.{eqb, ltb}
 use lib.ListN.{length, length-append}
 use Rattle.std.proofs.shelf.Tests.{cases-bool, cond-true, eqb-true, lt-ltb}
 use Rattle.std.proofs.shelf.Ways.{tells}
-use Rattle.search.specs.Next.{any}
+use Rattle.semantics.specs.Sets.{any}
 use Rattle.search.specs.Rounds.{among, listBelow}
 use Rattle.search.specs.Stack.{contents, capacity}
 use Rattle.search.specs.declared.stack.Stack.{Stack}

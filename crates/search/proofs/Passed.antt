@@ -7,7 +7,7 @@ use native.Mathlib.Omega.{arith}
 use lib.ListN.{getD, replicate}
 use Rattle.std.proofs.shelf.Lists.{getD-replicate}
 use Rattle.std.proofs.shelf.Tests.{and-from, and-parts}
-use Rattle.search.specs.Next.{into}
+use Rattle.semantics.specs.Sets.{into}
 use Rattle.search.specs.Rounds.{Passed}
 use Rattle.search.proofs.Quantifiers.{any-none-fewer}
 

@@ -6,7 +6,7 @@ use Prim.Native.Nat.{ℕ, zero, suc, _+_, _<_}
 use native.Mathlib.Numerals.{add-one}
 use native.Mathlib.Omega.{arith}
 use Rattle.std.proofs.shelf.Tests.{cases-bool, cases-eq, or-cases, or-left, or-right, or-from, and-from, and-left, and-right, both-ways, false≢true}
-use Rattle.search.specs.Next.{any, all}
+use Rattle.semantics.specs.Sets.{any, all}
 
 pub any-none-more : (n : ℕ) (p : ℕ → Bool) → p n ≡ false → any n p ≡ false → any (n + 1) p ≡ false
 any-none-more n p h t = rw add-one (or-from (p n) (any n p) h t)

@@ -8,11 +8,9 @@ use lib.Dec.{eqb, ltb}
 use lib.ListN.{length}
 use Rattle.std.proofs.shelf.Tests.{and-parts, both-ways, eq-eqb, false≢true, ltb-true, not-true, or-left}
 use Rattle.std.proofs.shelf.Ways.{tells}
-use Rattle.sets.specs.Member.{Same}
+use Rattle.semantics.specs.Sets.{Same, outside, into}
 use Rattle.sets.proofs.CountLaws.{count-falls}
-use Rattle.search.specs.Boolean.{outside}
-use Rattle.search.specs.Chains.{untilStep}
-use Rattle.search.specs.Next.{into}
+use Rattle.semantics.specs.Chains.{untilStep}
 use Rattle.search.specs.Rounds.{among, lacks}
 
 -- a list that is not empty has a state

@@ -1,6 +1,4 @@
-pub mod Boolean
-pub mod Chains
-pub mod Next
 pub mod Rounds
 pub mod Rows
+pub mod Searches
 pub mod Stack

@@ -5,8 +5,7 @@ use mathlib.Core.Path.{_≡_}
 use Prim.Native.Nat.{ℕ, zero, suc, _<_, _≤_}
 use lib.Dec.{eqb}
 use lib.ListN.{getD}
-use Rattle.sets.specs.Member.{count}
-use Rattle.search.specs.Next.{into}
+use Rattle.semantics.specs.Sets.{count, into}
 
 -- the numbers below n that pass, rising
 abbrev pub listBelow : ℕ → (ℕ → Bool) → List ℕ

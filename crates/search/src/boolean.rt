@@ -1,8 +1,7 @@
 ghost use mathlib.Core.Bool.{cond};
 ghost use mathlib.Core.Path.{_≡_};
 ghost use lib.Dec.{leb};
-ghost use Rattle.sets.specs.Member.{Same, union};
-ghost use Rattle.search.specs.Boolean.{below, outside};
+ghost use Rattle.semantics.specs.Sets.{Same, union, below, outside};
 use sets::StateSet;
 
 /// Makes `set` the states below `states` that `from` has, or answers `false` where it cannot hold them.

@@ -2,7 +2,7 @@ ghost use mathlib.Core.Bool.{true, false};
 ghost use mathlib.Core.Path.{_≡_};
 ghost use Prim.Native.Nat.{ℕ, _<_};
 ghost use Rattle.std.specs.Options.{Cases};
-ghost use Rattle.search.specs.Next.{hasStep};
+ghost use Rattle.semantics.specs.Sets.{hasStep};
 use crate::StepRule;
 
 /// The lowest of the states below `states` that leads to none of them.

@@ -3,10 +3,11 @@ ghost use mathlib.Core.List.{[]};
 ghost use mathlib.Core.Path.{_≡_};
 ghost use Prim.Native.Nat.{ℕ, _*_, _<_, _≤_};
 ghost use lib.ListN.{length};
-ghost use Rattle.sets.specs.Member.{Same};
+ghost use Rattle.semantics.specs.Sets.{Same, any};
 ghost use Rattle.std.specs.Options.{Cases, isSome};
-ghost use Rattle.search.specs.Chains.{enough, globallyStep, globallyChain, Settles, Inside};
-ghost use Rattle.search.specs.Next.{any};
+ghost use Rattle.search.specs.Searches.{enough, Found, Inside};
+ghost use Rattle.semantics.specs.Chains.{globallyStep, globallyChain};
+ghost use Rattle.semantics.specs.Settling.{Settles};
 ghost use Rattle.search.specs.Rounds.{leaving, Passed, listBelow, among};
 ghost use Rattle.search.specs.Stack.{contents, capacity};
 use crate::Stack;
@@ -140,7 +141,7 @@ pub fn globally<R: StepRule, F: StateSet, S: StateSet>(
     slots: &mut [u8],
 ) -> Option<usize>
     ensures fits { λ r. ⌜ isSome r ≡ enough states (S·StateSet .room) (length (now (slots .entry))) ⌝ }
-    ensures after { λ r. ⌜ Cases r (now (set .exit) ≡ now (set .entry)) (Settles states (globallyChain states (steps (now (rule .entry))) (F·StateSet .holds (now (operand .entry)))) (S·StateSet .holds (now (set .exit)))) ⌝ }
+    ensures after { λ r. ⌜ Cases r (now (set .exit) ≡ now (set .entry)) (Found states (globallyChain states (steps (now (rule .entry))) (F·StateSet .holds (now (operand .entry)))) (S·StateSet .holds (now (set .exit)))) ⌝ }
     ensures inside { λ r. ⌜ (isSome r ≡ true → Inside states (steps (now (rule .entry))) (F·StateSet .holds (now (operand .entry))) (S·StateSet .holds (now (set .exit)))) ⌝ }
 {
     if !enough(states, S::limit(), slots.len()) {

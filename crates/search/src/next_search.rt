@@ -3,8 +3,7 @@ ghost use mathlib.Core.Path.{_≡_};
 ghost use Prim.Native.Nat.{_<_, _≤_};
 ghost use lib.Dec.{leb};
 ghost use Rattle.std.specs.Options.{Cases};
-ghost use Rattle.sets.specs.Member.{Same};
-ghost use Rattle.search.specs.Next.{into, within, someNext, everyNext};
+ghost use Rattle.semantics.specs.Sets.{Same, into, within, someNext, everyNext};
 use crate::StepRule;
 use sets::StateSet;
 

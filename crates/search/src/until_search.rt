@@ -4,10 +4,11 @@ ghost use mathlib.Core.Path.{_≡_};
 ghost use Prim.Native.Nat.{_+_, _*_, _≤_};
 ghost use lib.Dec.{eqb};
 ghost use lib.ListN.{length};
-ghost use Rattle.sets.specs.Member.{Same};
+ghost use Rattle.semantics.specs.Sets.{Same, below};
 ghost use Rattle.std.specs.Options.{Cases, isSome};
-ghost use Rattle.search.specs.Boolean.{below};
-ghost use Rattle.search.specs.Chains.{enough, untilStep, untilChain, Settles};
+ghost use Rattle.search.specs.Searches.{enough, Found};
+ghost use Rattle.semantics.specs.Chains.{untilStep, untilChain};
+ghost use Rattle.semantics.specs.Settling.{Settles};
 ghost use Rattle.search.specs.Rounds.{Frontier, intoList, lacks, listBelow, among};
 ghost use Rattle.search.specs.Stack.{contents, capacity};
 use crate::Stack;
@@ -159,7 +160,7 @@ pub fn until<R: StepRule, F: StateSet, H: StateSet, S: StateSet>(
     slots: &mut [u8],
 ) -> Option<usize>
     ensures fits { λ r. ⌜ isSome r ≡ enough states (S·StateSet .room) (length (now (slots .entry))) ⌝ }
-    ensures after { λ r. ⌜ Cases r (now (set .exit) ≡ now (set .entry)) (Settles states (untilChain states (steps (now (rule .entry))) (F·StateSet .holds (now (first .entry))) (H·StateSet .holds (now (second .entry)))) (S·StateSet .holds (now (set .exit)))) ⌝ }
+    ensures after { λ r. ⌜ Cases r (now (set .exit) ≡ now (set .entry)) (Found states (untilChain states (steps (now (rule .entry))) (F·StateSet .holds (now (first .entry))) (H·StateSet .holds (now (second .entry)))) (S·StateSet .holds (now (set .exit)))) ⌝ }
 {
     if !enough(states, S::limit(), slots.len()) {
         return None;

@@ -11,7 +11,8 @@ use lib.Pow.{pow-pos, pow-lt, pow-add, shl-shr, high, split}
 use Rattle.std.proofs.shelf.Bits.{one-shl, div-below}
 use Rattle.std.proofs.shelf.Ways.{tells}
 use Rattle.std.proofs.shelf.Tests.{cases-order, eq-eqb, ne-eqb, lt-ltb, ltb-true, eqb-true}
-use Rattle.sets.specs.Bits.{bitOf, inBits}
+use Rattle.sets.specs.Bits.{inBits}
+use Rattle.semantics.specs.Sets.{bitOf}
 
 max-one : (x y : ℕ) → x < 2 → y < 2 → eqb (max x y) 1 ≡ (eqb x 1 || eqb y 1)
 max-one x y p q = grind (arith, tells)

@@ -6,7 +6,7 @@ use Prim.Native.Nat.{ℕ, zero, suc, _+_, _<_, _≤_}
 use native.Mathlib.Numerals.{add-one}
 use native.Mathlib.Omega.{arith}
 use Rattle.std.proofs.shelf.Tests.{cases-eq}
-use Rattle.sets.specs.Member.{count}
+use Rattle.semantics.specs.Sets.{count}
 
 -- what one state adds to a count
 abbrev one : Bool → ℕ

@@ -3,7 +3,8 @@ ghost use mathlib.Core.Path.{_≡_};
 ghost use mathlib.Core.Bool.{Bool, true, false, cond};
 ghost use Prim.Native.Nat.{ℕ, _<_};
 ghost use lib.Dec.{ltb};
-ghost use Rattle.sets.specs.Member.{plus, minus, union, Same, count};
+ghost use Rattle.sets.specs.Member.{plus, minus};
+ghost use Rattle.semantics.specs.Sets.{union, Same, count};
 
 mod bit_set;
 mod sorted_list;

@@ -1,6 +1,6 @@
 use mathlib.Core.Path.{_≡_}
 use Prim.Native.Nat.{_≤_}
-use Rattle.sets.specs.Member.{count}
+use Rattle.semantics.specs.Sets.{count}
 use Rattle.sets.proofs.count.Given as given
 
 abbrev pub Inv-loop-state : given.InvT-loop-state

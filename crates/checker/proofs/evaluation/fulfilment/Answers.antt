@@ -4,7 +4,7 @@ use Prim.Native.Nat.{ℕ}
 use lib.ListN.{length}
 use Rattle.std.proofs.shelf.Tests.{le-leb, false≢true}
 use Rattle.sets.specs.Bits.{inBits}
-use Rattle.search.specs.Next.{someNext, everyNext}
+use Rattle.semantics.specs.Sets.{someNext, everyNext}
 use Rattle.checker.specs.Evaluation.{fulfilmentAccess}
 use Rattle.checker.proofs.Searching.{when-done}
 use Rattle.checker.proofs.evaluation.fulfilment.Needs as need

@@ -1,6 +1,6 @@
 use mathlib.Core.Path.{_≡_}
 use Prim.Native.Nat.{ℕ}
-use Rattle.search.specs.Boolean.{below}
+use Rattle.semantics.specs.Sets.{below}
 use Rattle.checker.specs.Evaluation.{marked}
 use Rattle.checker.proofs.evaluation.mark_states.Given as given
 

@@ -2,7 +2,8 @@ use mathlib.Core.Path.{_≡_, sym, subst}
 use Prim.Native.Nat.{ℕ}
 use lib.ListN.{length}
 use Rattle.sets.specs.Bits.{inBits}
-use Rattle.search.specs.Chains.{Settles, untilChain}
+use Rattle.search.specs.Searches.{Found}
+use Rattle.semantics.specs.Chains.{untilChain}
 use Rattle.sheets.specs.Moves.{moveIn}
 use Rattle.checker.proofs.Searching.{has-room}
 use Rattle.checker.proofs.evaluation.until_states.Needs as need
@@ -11,7 +12,7 @@ pub returns : need.returns
 returns g c =
     let ss = c .args .states .now in
     let n = length ss in
-    let Q : ℕ → Type 0 = λ r. Settles n (untilChain n (moveIn ss) (inBits (c .args .first .now .bits)) (inBits (c .args .second .now .bits))) (g .S·StateSet .holds (c .until .last .set)) r in
+    let Q : ℕ → Type 0 = λ r. Found n (untilChain n (moveIn ss) (inBits (c .args .first .now .bits)) (inBits (c .args .second .now .bits))) (g .S·StateSet .holds (c .until .last .set)) r in
     subst Q (sym (c .unwrap-or .ensures))
     (has-room n (g .S·StateSet .room) (length (c .args .slots .now)) (c .until .result) (c .until .last .set ≡ c .args .set .now) Q
     (c .pre .few) (c .pre .fits) (c .pre .slots) (c .until .ensures .fits) (c .until .ensures .after))

@@ -1,6 +1,6 @@
 use mathlib.Core.Path.{_≡_}
 use Prim.Native.Nat.{ℕ}
-use Rattle.search.specs.Boolean.{below, outside}
+use Rattle.semantics.specs.Sets.{below, outside}
 use Rattle.search.proofs.boolean.complement.Given as given
 
 abbrev pub Inv-loop-state : given.InvT-loop-state

@@ -1,6 +1,6 @@
 use mathlib.Core.Path.{_≡_}
 use Prim.Native.Nat.{ℕ}
-use Rattle.search.specs.Boolean.{below}
+use Rattle.semantics.specs.Sets.{below}
 use Rattle.search.proofs.boolean.copy.Given as given
 
 abbrev pub Inv-loop-state : given.InvT-loop-state

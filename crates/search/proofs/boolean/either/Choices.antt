@@ -1,7 +1,6 @@
 use mathlib.Core.Path.{_≡_}
 use Prim.Native.Nat.{ℕ}
-use Rattle.sets.specs.Member.{union}
-use Rattle.search.specs.Boolean.{below}
+use Rattle.semantics.specs.Sets.{union, below}
 use Rattle.search.proofs.boolean.either.Given as given
 
 abbrev pub Inv-loop-state : given.InvT-loop-state

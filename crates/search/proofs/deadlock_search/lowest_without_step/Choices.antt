@@ -1,7 +1,7 @@
 use Prim.Native.Nat.{ℕ, _<_}
 use mathlib.Core.Path.{_≡_}
 use mathlib.Core.Bool.{true, false}
-use Rattle.search.specs.Next.{hasStep}
+use Rattle.semantics.specs.Sets.{hasStep}
 use Rattle.search.proofs.deadlock_search.lowest_without_step.Given as given
 
 abbrev pub Inv-loop-to : given.InvT-loop-to

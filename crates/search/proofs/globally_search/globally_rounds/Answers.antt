@@ -2,11 +2,10 @@ use mathlib.Core.Path.{_∙_}
 use native.Mathlib.Omega.{arith}
 use lib.ListN.{length}
 use Rattle.std.proofs.shelf.Tests.{le-leb}
-use Rattle.sets.specs.Member.{count}
+use Rattle.semantics.specs.Sets.{count, below}
 use Rattle.sets.proofs.CountLaws.{count-le}
 use Rattle.sets.proofs.MemberLaws.{cond-on}
-use Rattle.search.specs.Boolean.{below}
-use Rattle.search.specs.Chains.{globallyStep}
+use Rattle.semantics.specs.Chains.{globallyStep}
 use Rattle.search.proofs.GloballyRound.{globally-stays, globally-changes, globally-falls, chain-below, settles-inside}
 use Rattle.search.proofs.Iteration.{running-first, running-more, running-last}
 use Rattle.search.proofs.Passed.{passed-first}

@@ -1,9 +1,8 @@
 use mathlib.Core.Path.{_≡_}
 use mathlib.Core.List.{[]}
 use Prim.Native.Nat.{_≤_}
-use Rattle.sets.specs.Member.{count}
-use Rattle.search.specs.Boolean.{below}
-use Rattle.search.specs.Chains.{globallyStep}
+use Rattle.semantics.specs.Sets.{count, below}
+use Rattle.semantics.specs.Chains.{globallyStep}
 use Rattle.search.specs.Rounds.{Passed}
 use Rattle.search.specs.Stack.{contents, capacity}
 use Rattle.search.proofs.Iteration.{Running}

@@ -3,7 +3,7 @@ use mathlib.Core.Bool.{not, _&&_}
 use lib.Dec.{eqb, ltb}
 use lib.ListN.{length}
 use Rattle.std.proofs.shelf.Tests.{lt-ltb, and-parts}
-use Rattle.search.specs.Next.{into}
+use Rattle.semantics.specs.Sets.{into}
 use Rattle.search.specs.Rounds.{among, leaving}
 use Rattle.search.proofs.GloballyRound.{round-keeps}
 use Rattle.search.proofs.Lists.{among-below, some-below}

@@ -1,7 +1,6 @@
 use mathlib.Core.Path.{_≡_}
 use Prim.Native.Nat.{ℕ}
-use Rattle.search.specs.Boolean.{below}
-use Rattle.search.specs.Next.{within}
+use Rattle.semantics.specs.Sets.{below, within}
 use Rattle.search.proofs.next_search.every_next.Given as given
 
 abbrev pub Inv-loop-from : given.InvT-loop-from

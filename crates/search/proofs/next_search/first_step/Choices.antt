@@ -1,6 +1,6 @@
 use mathlib.Core.Path.{_≡_}
 use mathlib.Core.Bool.{false}
-use Rattle.search.specs.Next.{into}
+use Rattle.semantics.specs.Sets.{into}
 use Rattle.search.proofs.next_search.first_step.Given as given
 
 abbrev pub Inv-loop-to : given.InvT-loop-to

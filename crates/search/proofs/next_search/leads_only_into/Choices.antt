@@ -1,6 +1,6 @@
 use mathlib.Core.Path.{_≡_}
 use mathlib.Core.Bool.{true}
-use Rattle.search.specs.Next.{within}
+use Rattle.semantics.specs.Sets.{within}
 use Rattle.search.proofs.next_search.leads_only_into.Given as given
 
 abbrev pub Inv-loop-to : given.InvT-loop-to

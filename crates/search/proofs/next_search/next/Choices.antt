@@ -1,7 +1,6 @@
 use mathlib.Core.Path.{_≡_}
 use Prim.Native.Nat.{ℕ}
-use Rattle.search.specs.Boolean.{below}
-use Rattle.search.specs.Next.{into}
+use Rattle.semantics.specs.Sets.{below, into}
 use Rattle.search.proofs.next_search.next.Given as given
 
 abbrev pub Inv-loop-from : given.InvT-loop-from

@@ -3,8 +3,8 @@ use native.Mathlib.Omega.{arith}
 use Rattle.std.proofs.shelf.Tests.{le-leb}
 use Rattle.sets.proofs.CountLaws.{count-le}
 use Rattle.sets.proofs.MemberLaws.{cond-on}
-use Rattle.search.specs.Boolean.{below, outside}
-use Rattle.search.specs.Chains.{untilStep}
+use Rattle.semantics.specs.Sets.{below, outside}
+use Rattle.semantics.specs.Chains.{untilStep}
 use Rattle.search.specs.Rounds.{lacks}
 use Rattle.search.specs.Stack.{contents}
 use Rattle.search.proofs.Frontiers.{frontier-first, frontier-next}

@@ -1,8 +1,8 @@
 use mathlib.Core.Path.{_≡_}
 use mathlib.Core.List.{[]}
 use Prim.Native.Nat.{_≤_}
-use Rattle.search.specs.Boolean.{below}
-use Rattle.search.specs.Chains.{untilStep}
+use Rattle.semantics.specs.Sets.{below}
+use Rattle.semantics.specs.Chains.{untilStep}
 use Rattle.search.specs.Rounds.{Frontier, lacks}
 use Rattle.search.specs.Stack.{contents, capacity}
 use Rattle.search.proofs.Iteration.{Running}

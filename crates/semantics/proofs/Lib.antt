@@ -1,0 +1,16 @@
+pub mod Quantifiers
+pub mod Counts
+pub mod Settling
+pub mod Turns
+pub mod Paths
+pub mod Searches
+pub mod Truth
+pub mod AccessLaws
+pub mod Actions
+pub mod Resolving
+pub mod ReducedLines
+pub mod Roads
+pub mod Decided
+pub mod Walks
+pub mod Lassos
+pub mod Evidence
