@@ -14,3 +14,10 @@ pub mod Decided
 pub mod Walks
 pub mod Lassos
 pub mod Evidence
+pub mod Decimals
+pub mod Cutting
+pub mod LinesRead
+pub mod Spelling
+pub mod Sizes
+pub mod ReadBack
+pub mod Fitting

@@ -5,6 +5,7 @@ ghost use Rattle.semantics.specs.AccessLaws.{Access-transitive, Access-Euclide
 ghost use Rattle.semantics.specs.Resolving.{Query-sets-are-truth};
 ghost use Rattle.semantics.specs.Roads.{Two-roads};
 ghost use Rattle.semantics.specs.Evidence.{Evidence-where-due};
+ghost use Rattle.semantics.specs.ReadBack.{Reductions-read-back};
 
 pub fn until_settles_stands() -> u8
     ensures { λ _. ⌜ Until-settles ⌝ }
@@ -68,6 +69,12 @@ pub fn two_roads_stands() -> u8
 
 pub fn evidence_where_due_stands() -> u8
     ensures { λ _. ⌜ Evidence-where-due ⌝ }
+{
+    0
+}
+
+pub fn reductions_read_back_stands() -> u8
+    ensures { λ _. ⌜ Reductions-read-back ⌝ }
 {
     0
 }
