@@ -21,3 +21,5 @@ pub mod Spelling
 pub mod Sizes
 pub mod ReadBack
 pub mod Fitting
+pub mod MoveCounts
+pub mod EditValid
