@@ -23,3 +23,5 @@ pub mod ReadBack
 pub mod Fitting
 pub mod MoveCounts
 pub mod EditValid
+pub mod Runs
+pub mod Accounts

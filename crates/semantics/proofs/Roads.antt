@@ -7,7 +7,7 @@ use native.Mathlib.Nat.{zero-add, add-zero}
 use native.Mathlib.Omega.{arith}
 use lib.ListN.{length, getD, take, drop, length-append}
 use Rattle.std.specs.Joined.{joined}
-use Rattle.std.proofs.shelf.Lists.{getD-push, length-push, take-more, drop-more, take-append-drop, joined-more, length-take-le}
+use Rattle.std.proofs.shelf.Lists.{getD-push, length-push, take-more, joined-more, length-take-le}
 use Rattle.std.proofs.shelf.Tests.{and-parts, and-from}
 use Rattle.semantics.specs.Sets.{nothing, everyNext}
 use Rattle.semantics.specs.Access.{commitmentAccess}
@@ -21,7 +21,7 @@ use Rattle.semantics.specs.Reduction.{actionLines, queryLines, Reduced, reduce
 use Rattle.semantics.specs.Roads.{Agree, Two-roads}
 use Rattle.semantics.specs.Turns.{inTurn}
 use Rattle.semantics.proofs.ReducedLines.{frontOf, lastOf, front-last, Has, Inner, committed-set, last-set, last-rounds}
-use Rattle.semantics.proofs.Turns.{Alike, alike-below, alike-map, alike-push, turn-append, turn-length, turn-keeps, turn-at}
+use Rattle.semantics.proofs.Turns.{Alike, alike-below, alike-map, alike-push, turn-append, turn-length, turn-keeps, turn-at, split-at}
 
 at-only : (pre post : List ActionLine) (x : Action) → getD (actionFormulas (pre ++ only x ∷ post)) (length pre) never ≡ sameAction x
 unfolding actionFormulas
@@ -209,7 +209,7 @@ two-roads h v f l =
     let xs = take f (h .lines) in
     let ys = drop (f + 1) (h .lines) in
     let x = lineAt h f in
-    let whole : h .lines ≡ xs ++ x ∷ ys = sym (take-append-drop f (h .lines)) ∙ ap (λ w. xs ++ w) (drop-more (h .lines) f (mark 0) l) in
+    let whole = split-at (h .lines) f (mark 0) l in
     let front : take (f + 1) (h .lines) ≡ xs ++ x ∷ [] = take-more (h .lines) f (mark 0) l in
     let at : length xs ≡ f = length-take-le f (h .lines) (omega arith) in
     let fits : linesFit h 0 (xs ++ x ∷ ys) ≡ true = ap (linesFit h 0) (sym whole) ∙ v .lines-fit in

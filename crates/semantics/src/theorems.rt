@@ -6,6 +6,7 @@ ghost use Rattle.semantics.specs.Resolving.{Query-sets-are-truth};
 ghost use Rattle.semantics.specs.Roads.{Two-roads};
 ghost use Rattle.semantics.specs.Evidence.{Evidence-where-due};
 ghost use Rattle.semantics.specs.ReadBack.{Reductions-read-back};
+ghost use Rattle.semantics.specs.RunLaws.{Runs-agree, Runs-show, Runs-account};
 
 pub fn until_settles_stands() -> u8
     ensures { λ _. ⌜ Until-settles ⌝ }
@@ -75,6 +76,24 @@ pub fn evidence_where_due_stands() -> u8
 
 pub fn reductions_read_back_stands() -> u8
     ensures { λ _. ⌜ Reductions-read-back ⌝ }
+{
+    0
+}
+
+pub fn runs_agree_stands() -> u8
+    ensures { λ _. ⌜ Runs-agree ⌝ }
+{
+    0
+}
+
+pub fn runs_show_stands() -> u8
+    ensures { λ _. ⌜ Runs-show ⌝ }
+{
+    0
+}
+
+pub fn runs_account_stands() -> u8
+    ensures { λ _. ⌜ Runs-account ⌝ }
 {
     0
 }
