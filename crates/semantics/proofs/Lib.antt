@@ -25,3 +25,6 @@ pub mod MoveCounts
 pub mod EditValid
 pub mod Runs
 pub mod Accounts
+pub mod WorkedValid
+pub mod WorkedRun
+pub mod Worked

@@ -29,3 +29,4 @@ pub mod Books
 pub mod Calls
 pub mod Law
 pub mod RunLaws
+pub mod Worked

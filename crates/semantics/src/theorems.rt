@@ -7,6 +7,7 @@ ghost use Rattle.semantics.specs.Roads.{Two-roads};
 ghost use Rattle.semantics.specs.Evidence.{Evidence-where-due};
 ghost use Rattle.semantics.specs.ReadBack.{Reductions-read-back};
 ghost use Rattle.semantics.specs.RunLaws.{Runs-agree, Runs-show, Runs-account};
+ghost use Rattle.semantics.specs.Worked.{Worked};
 
 pub fn until_settles_stands() -> u8
     ensures { λ _. ⌜ Until-settles ⌝ }
@@ -94,6 +95,12 @@ pub fn runs_show_stands() -> u8
 
 pub fn runs_account_stands() -> u8
     ensures { λ _. ⌜ Runs-account ⌝ }
+{
+    0
+}
+
+pub fn worked_example_stands() -> u8
+    ensures { λ _. ⌜ Worked ⌝ }
 {
     0
 }
