@@ -1,7 +1,7 @@
 -- Laws of access, by its three rules.
 use mathlib.Core.Path.{_≡_, refl, sym, _∙_}
 use mathlib.Core.Logic.{inl, inr}
-use mathlib.Core.Bool.{Bool, true, false, not, _&&_, _||_}
+use mathlib.Core.Bool.{Bool, true, false, not, _&&_}
 use Prim.Native.Nat.{ℕ, _<_}
 use lib.Dec.{eqb, ltb}
 use Rattle.std.specs.Orderings.{Decides}
@@ -9,7 +9,7 @@ use Rattle.std.proofs.shelf.Tests.{and-parts, and-from, eqb-true, eq-eqb, false
 use Rattle.semantics.specs.Sets.{all}
 use Rattle.semantics.specs.Sheets.{Sheet, shares}
 use Rattle.semantics.specs.Access.{implies, agree, sameLocal, handedOver, otherwiseKept, access}
-use Rattle.semantics.specs.Formulas.{Formula, committed, fulfilled, Holds}
+use Rattle.semantics.specs.Formulas.{Holds}
 use Rattle.semantics.specs.AccessLaws.{Access-transitive, Access-Euclidean, Access-shift-reflexive, Fulfilment-commits, Fulfilment-only-of-commitments}
 use Rattle.semantics.proofs.Quantifiers.{all-says}
 

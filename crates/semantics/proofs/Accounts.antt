@@ -3,7 +3,7 @@ use mathlib.Core.Path.{_≡_, refl, sym, ap, _∙_, subst}
 use mathlib.Core.Bool.{Bool, true, false, cond}
 use mathlib.Core.List.{List, [], _∷_, _++_, append-assoc, append-nil}
 use Prim.Native.Nat.{ℕ, zero, suc, _+_}
-use lib.ListN.{length, take}
+use lib.ListN.{length}
 use Rattle.std.specs.declared.option.Option.{Option}
 use Rattle.std.specs.declared.option.Option.the-variants.{Some, None}
 use Rattle.std.proofs.shelf.Lists.{length-push}
@@ -11,8 +11,8 @@ use Rattle.semantics.specs.Sheets.{Sheet}
 use Rattle.semantics.specs.Edits.{Edit, edited, made}
 use Rattle.semantics.specs.Books.{Amending, Book, beginRefusal, closeRefusal, editRefusal, begun, amended, kept, withdrawn, unless}
 use Rattle.semantics.specs.Calls.{Call, begin, edit, keep, withdraw, judge, translate, resolve, show, Limits, refusal, bookAfter}
-use Rattle.semantics.specs.Law.{Entry, Outcome, Accepted, Settled, Lawful}
-use Rattle.semantics.specs.RunLaws.{Sound, accepted, Account, entered, accountOver, bookOver, Accounted, Runs-account}
+use Rattle.semantics.specs.Law.{Outcome, Accepted, Settled}
+use Rattle.semantics.specs.RunLaws.{accepted, Account, entered, Accounted, Runs-account}
 use Rattle.semantics.proofs.Runs.{book, book-sound}
 
 made-push : (es : List Edit) (h : Sheet) (e : Edit) → made h (es ++ e ∷ []) ≡ edited (made h es) e

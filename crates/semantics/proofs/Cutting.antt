@@ -1,13 +1,12 @@
 -- Lines and fields are cut from the texts that were put together of them.
 use mathlib.Core.Path.{_≡_, refl, sym, ap, _∙_}
-use mathlib.Core.Bool.{cond}
 use mathlib.Core.List.{List, [], _∷_, _++_, map, append-assoc, append-nil}
 use Prim.Native.Nat.{ℕ, _+_, _*_, _<_, _≤_}
 use native.Mathlib.Omega.{arith}
 use lib.Dec.{eqb}
 use lib.ListN.{length, length-append}
 use Rattle.std.specs.Written.{decimal}
-use Rattle.std.proofs.shelf.Tests.{cond-true, cond-false, eq-eqb, ne-eqb}
+use Rattle.std.proofs.shelf.Tests.{cond-false, ne-eqb}
 use Rattle.semantics.specs.Cuts.{prefixed, linesOf, fieldsOf}
 use Rattle.semantics.specs.Written.{fieldsText, letteredText}
 use Rattle.semantics.proofs.Decimals.{Lacks, lacks-append, decimal-lacks, decimal-length}

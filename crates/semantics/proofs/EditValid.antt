@@ -1,18 +1,17 @@
 -- An edit that passes its checks leaves the sheet valid.
 use mathlib.Core.Path.{_≡_, refl, sym, ap, _∙_}
-use mathlib.Core.Logic.{_⊎_, inl, inr, ⊎-elim}
-use mathlib.Core.Bool.{Bool, true, false, cond, not, _&&_, _||_}
+use mathlib.Core.Logic.{⊎-elim}
+use mathlib.Core.Bool.{Bool, true, false, not, _&&_, _||_}
 use mathlib.Core.List.{List, [], _∷_}
-use Prim.Native.Nat.{ℕ, suc, _+_, _^_, _<_, _≤_}
+use Prim.Native.Nat.{ℕ, _+_, _^_, _<_, _≤_}
 use native.Mathlib.Omega.{arith}
 use lib.Dec.{eqb, leb, ltb}
-use Rattle.std.specs.declared.option.Option.{Option}
 use Rattle.std.specs.declared.option.Option.the-variants.{Some, None}
-use Rattle.std.proofs.shelf.Tests.{and-parts, and-from, and-left, and-right, or-cases, or-left, or-right, or-parts, not-true, not-false, not-from-false, cond-true, cond-false, cond-both, cases-bool, cases-eq, both-ways, ltb-true, leb-true, leb-false, eqb-true, eq-eqb, ne-eqb, eqb-false}
-use Rattle.semantics.specs.Sets.{any, all, count, hasStep}
+use Rattle.std.proofs.shelf.Tests.{and-parts, and-from, and-left, and-right, or-cases, or-right, not-true, not-false, not-from-false, cond-true, cond-false, cond-both, cases-bool, cases-eq, ltb-true, leb-true, leb-false, eqb-true, ne-eqb}
+use Rattle.semantics.specs.Sets.{count, hasStep}
 use Rattle.semantics.specs.Sheets.{Sheet, Line, mark, negation, disjunction, next, globally, until, commitment, fulfilment}
 use Rattle.semantics.specs.Validity.{Valid, paired, lineFits, linesFit, movesFrom, moveCount}
-use Rattle.semantics.specs.Edits.{Edit, joinMove, cutMove, setValue, setMarks, Value, thePosition, theCopy, withMoves, withValues, edited, firstOf, otherMove, editChecks}
+use Rattle.semantics.specs.Edits.{Edit, joinMove, cutMove, setValue, setMarks, thePosition, theCopy, withMoves, withValues, edited, firstOf, otherMove, editChecks}
 use Rattle.semantics.proofs.Quantifiers.{any-says, all-says}
 use Rattle.semantics.proofs.Counts.{count-mono, count-plus}
 use Rattle.semantics.proofs.MoveCounts.{moves-fewer, moves-plus}

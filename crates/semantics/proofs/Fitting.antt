@@ -1,23 +1,21 @@
 -- The reduction of a line of a valid sheet fits the sheet, so its text reads back.
 use mathlib.Core.Path.{_≡_, refl, sym, ap, _∙_}
 use mathlib.Core.Logic.{⊎-elim}
-use mathlib.Core.Bool.{Bool, true, _&&_}
+use mathlib.Core.Bool.{Bool, true}
 use mathlib.Core.List.{List, [], _∷_, _++_}
 use Prim.Native.Nat.{ℕ, zero, suc, _+_, _-_, _*_, _<_, _≤_}
 use native.Mathlib.Nat.{zero-add, add-zero}
 use native.Mathlib.Omega.{arith}
 use lib.Dec.{ltb}
-use lib.ListN.{length, getD, take, drop, length-append}
+use lib.ListN.{length, getD, take, length-append}
 use Rattle.std.specs.Joined.{joined}
-use Rattle.std.specs.declared.result.Result.the-variants.{Ok}
 use Rattle.std.proofs.shelf.Lists.{getD-append-left, getD-push, length-push, length-take-le}
 use Rattle.std.proofs.shelf.Tests.{and-parts, and-from, ltb-true, lt-ltb, cases-eq}
-use Rattle.semantics.specs.Actions.{ActionLine, only, R, D, V}
-use Rattle.semantics.specs.Queries.{QueryLine, atom, neg, or, EX, AX, EG, EU}
+use Rattle.semantics.specs.Queries.{QueryLine}
 use Rattle.semantics.specs.ReadBack.{actionFits, queryLineFits, eachFits, QueryFits, Reductions-read-back}
 use Rattle.semantics.specs.Reduction.{actionLines, queryLines, Reduced, reduceLine, reduced, nothingReduced, queryOf, reduction}
 use Rattle.semantics.specs.Sheets.{Sheet, Line, mark, negation, disjunction, next, globally, until, commitment, fulfilment}
-use Rattle.semantics.specs.Validity.{Valid, paired, lineFits, linesFit}
+use Rattle.semantics.specs.Validity.{paired, lineFits, linesFit}
 use Rattle.semantics.proofs.ReadBack.{query-reads-back}
 use Rattle.semantics.proofs.ReducedLines.{is-pair}
 use Rattle.semantics.proofs.Sizes.{limits}

@@ -9,6 +9,7 @@ pub mod AccessLaws
 pub mod Actions
 pub mod Resolving
 pub mod ReducedLines
+pub mod Standing
 pub mod Roads
 pub mod Decided
 pub mod Walks

@@ -1,20 +1,17 @@
 -- A line that was written by the table of letters is read back.
-use mathlib.Core.Path.{_≡_, refl, sym, ap, _∙_}
-use mathlib.Core.Bool.{Bool, true, false, cond, _&&_}
-use mathlib.Core.List.{List, [], _∷_, _++_, map}
+use mathlib.Core.Path.{_≡_, refl, ap, _∙_}
+use mathlib.Core.Bool.{true, cond}
+use mathlib.Core.List.{List, [], _∷_, map}
 use Prim.Native.Nat.{ℕ, _+_, _<_, _≤_}
 use native.Mathlib.Omega.{arith}
 use lib.Dec.{eqb, leb, ltb}
-use lib.ListN.{length, drop}
-use Rattle.std.specs.declared.option.Option.{Option}
-use Rattle.std.specs.declared.option.Option.the-variants.{Some, None}
-use Rattle.std.specs.declared.result.Result.{Result}
-use Rattle.std.specs.declared.result.Result.the-variants.{Ok, Err}
+use lib.ListN.{length}
+use Rattle.std.specs.declared.option.Option.the-variants.{Some}
+use Rattle.std.specs.declared.result.Result.the-variants.{Ok}
 use Rattle.std.specs.Written.{decimal}
 use Rattle.std.proofs.shelf.Tests.{cond-true, cond-false, eq-eqb, lt-leb, le-ltb}
-use Rattle.semantics.specs.Faults.{Fault, refusedAt, andThen}
-use Rattle.semantics.specs.Numbers.{numberOf}
-use Rattle.semantics.specs.QueryReading.{Kind, Letter, letterIn, numberAt, inRange, numbersAt, isEarlier, earlierAt, numberedLine, countedLine, letteredLine}
+use Rattle.semantics.specs.Faults.{refusedAt, andThen}
+use Rattle.semantics.specs.QueryReading.{Kind, Letter, letterIn, numberAt, inRange, numbersAt, isEarlier, earlierAt, countedLine, letteredLine}
 use Rattle.semantics.specs.Sheets.{Sheet}
 use Rattle.semantics.specs.Written.{letteredText}
 use Rattle.semantics.proofs.Cutting.{Small}

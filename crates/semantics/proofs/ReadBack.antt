@@ -1,28 +1,27 @@
 -- The text of a query that fits a sheet reads back as the query.
-use mathlib.Core.Path.{_≡_, refl, sym, ap, _∙_}
-use mathlib.Core.Logic.{⊎-elim}
-use mathlib.Core.Bool.{Bool, true, false, cond, _&&_}
+use mathlib.Core.Path.{_≡_, sym, ap, _∙_}
+use mathlib.Core.Bool.{Bool, true}
 use mathlib.Core.List.{List, [], _∷_, _++_, map, append-assoc, append-nil}
 use Prim.Native.Nat.{ℕ, _+_, _-_, _*_, _<_, _≤_}
 use native.Mathlib.Omega.{arith}
-use lib.Dec.{eqb, ltb}
-use lib.ListN.{length, getD, length-append}
+use lib.Dec.{ltb}
+use lib.ListN.{length, length-append}
 use Rattle.std.specs.declared.result.Result.{Result}
-use Rattle.std.specs.declared.result.Result.the-variants.{Ok, Err}
+use Rattle.std.specs.declared.result.Result.the-variants.{Ok}
 use Rattle.std.specs.Written.{decimal}
 use Rattle.std.proofs.shelf.Lists.{getD-push, length-push}
 use Rattle.std.proofs.shelf.Tests.{cond-true, cond-false, and-parts, and-from, eq-eqb, le-ltb, lt-ltb}
 use Rattle.semantics.specs.Actions.{ActionLine}
-use Rattle.semantics.specs.Cuts.{linesOf, fieldsOf}
+use Rattle.semantics.specs.Cuts.{linesOf}
 use Rattle.semantics.specs.Faults.{Fault, andThen}
 use Rattle.semantics.specs.Queries.{Query, QueryLine}
 use Rattle.semantics.specs.QueryReading.{Letter, actionLetters, queryLetters, letteredLine, lineRead, linesRead, withAction, withLine, finished, queryRead}
 use Rattle.semantics.specs.QueryText.{actionText, queryLineText, queryText}
 use Rattle.semantics.specs.ReadBack.{actionFits, queryLineFits, eachFits, QueryFits}
 use Rattle.semantics.specs.Sheets.{Sheet}
-use Rattle.semantics.specs.Written.{letteredText, numberedText}
-use Rattle.semantics.proofs.Cutting.{Small, bodyText, lettered-ends, lettered-length, cut-line, cut-fields}
-use Rattle.semantics.proofs.LinesRead.{Sound, sound-small, line-read, Spelled}
+use Rattle.semantics.specs.Written.{numberedText}
+use Rattle.semantics.proofs.Cutting.{Small, lettered-ends, lettered-length, cut-line, cut-fields}
+use Rattle.semantics.proofs.LinesRead.{sound-small, line-read, Spelled}
 use Rattle.semantics.proofs.Spelling.{spelled-action, spelled-line}
 
 abbrev made : List ActionLine → List QueryLine → Query

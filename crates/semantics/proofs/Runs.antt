@@ -1,12 +1,11 @@
 -- What holds of each call of a lawful run from a sound reference state.
 use mathlib.Core.Path.{_≡_, refl, sym, ap, _∙_, subst}
 use mathlib.Core.Logic.{_↔_}
-use mathlib.Core.Bool.{Bool, true, false, cond, not}
+use mathlib.Core.Bool.{Bool, true, not}
 use mathlib.Core.List.{List, [], _∷_}
 use Prim.Native.Nat.{ℕ, _<_, _≤_}
-use native.Mathlib.Omega.{arith}
 use lib.Dec.{eqb, leb, ltb}
-use lib.ListN.{length, getD, take}
+use lib.ListN.{length, take}
 use Rattle.std.specs.declared.option.Option.{Option}
 use Rattle.std.specs.declared.option.Option.the-variants.{Some, None}
 use Rattle.std.specs.declared.result.Result.the-variants.{Ok}
@@ -24,9 +23,9 @@ use Rattle.semantics.specs.Edits.{Edit, editChecks}
 use Rattle.semantics.specs.Books.{Amending, Book, beginRefusal, closeRefusal, editRefusal, begun, amended, kept, withdrawn, unless}
 use Rattle.semantics.specs.Calls.{Call, begin, edit, keep, withdraw, judge, translate, resolve, show, Limits, Answer, refused, ticket, done, count, judged, written, shown, showable, refusal, bookAfter, after}
 use Rattle.semantics.specs.Law.{Entry, Outcome, Showing, Resolved, Accepted, Settled, Gives, Throughout}
-use Rattle.semantics.specs.RunLaws.{SoundAmending, Sound, accepted, JudgedAs, OneAnswerTo, OneAnswer, Runs-agree, ShowsTo, Shows, Runs-show}
+use Rattle.semantics.specs.RunLaws.{Sound, accepted, JudgedAs, OneAnswerTo, OneAnswer, Runs-agree, ShowsTo, Shows, Runs-show}
 use Rattle.semantics.specs.Turns.{inTurn}
-use Rattle.semantics.proofs.EditValid.{Clear, clear-from, edit-valid}
+use Rattle.semantics.proofs.EditValid.{clear-from, edit-valid}
 use Rattle.semantics.proofs.Evidence.{evidence-where-due}
 use Rattle.semantics.proofs.Fitting.{reductions-read-back}
 use Rattle.semantics.proofs.Roads.{two-roads}

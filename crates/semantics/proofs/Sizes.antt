@@ -1,6 +1,5 @@
 -- The limits of a valid sheet.
-use mathlib.Core.Path.{_≡_}
-use Prim.Native.Nat.{ℕ, _≤_}
+use Prim.Native.Nat.{_≤_}
 use lib.Dec.{leb}
 use lib.ListN.{length}
 use Rattle.std.proofs.shelf.Tests.{and-parts, leb-true}
@@ -9,7 +8,6 @@ use Rattle.semantics.specs.Validity.{Valid, between}
 
 pub record Limits (h : Sheet) : Type 0 where
   pub few-parties : h .parties ≤ 6
-  pub few-states : h .states ≤ 128
   pub few-marks : h .marks ≤ 16
   pub few-lines : length (h .lines) ≤ 64
 
@@ -22,7 +20,6 @@ limits h v =
     let e = and-parts (leb (h .marks) 16) (leb (length (h .lines)) 64) (d .1) in
     record {
       few-parties = leb-true _ _ (and-parts (leb 2 (h .parties)) (leb (h .parties) 6) (b .0) .1);
-      few-states = leb-true _ _ (and-parts (leb 1 (h .states)) (leb (h .states) 128) (d .0) .1);
       few-marks = leb-true _ _ (e .0);
       few-lines = leb-true _ _ (e .1);
     }

@@ -1,14 +1,14 @@
 -- Every line of a query is written by a letter of its table.
 use mathlib.Core.Path.{_≡_, refl}
-use mathlib.Core.Bool.{Bool, true, _&&_}
-use mathlib.Core.List.{List, [], _∷_}
+use mathlib.Core.Bool.{true}
+use mathlib.Core.List.{[], _∷_}
 use Prim.Native.Nat.{ℕ, _<_, _≤_}
 use native.Mathlib.Omega.{arith}
 use lib.Dec.{ltb}
 use Rattle.std.proofs.shelf.Tests.{and-parts, ltb-true}
 use Rattle.semantics.specs.Actions.{ActionLine, only, except, either, R, D, V}
 use Rattle.semantics.specs.Queries.{QueryLine, atom, neg, or, EX, AX, EG, EU}
-use Rattle.semantics.specs.QueryReading.{Letter, letter, at, aParty, aMark, anAction, anOperand, actionLetters, queryLetters}
+use Rattle.semantics.specs.QueryReading.{letter, at, aParty, aMark, anAction, anOperand, actionLetters, queryLetters}
 use Rattle.semantics.specs.QueryText.{actionText, queryLineText}
 use Rattle.semantics.specs.ReadBack.{actionFits, queryLineFits}
 use Rattle.semantics.specs.Sheets.{Sheet}

@@ -1,16 +1,16 @@
 -- The run over sheet 7 is lawful.
-use mathlib.Core.Path.{_≡_, refl, sym, ap, _∙_, fun-ext}
+use mathlib.Core.Path.{_≡_, refl, sym, _∙_, fun-ext}
 use mathlib.Core.Logic.{⊎-elim}
-use mathlib.Core.Bool.{Bool, true, false, _||_, false≢true}
+use mathlib.Core.Bool.{Bool, true, false, false≢true}
 use mathlib.Core.List.{List, [], _∷_}
 use Prim.Native.Nat.{ℕ, zero, suc, _<_, _≤_}
 use native.Mathlib.Omega.{arith}
-use lib.Dec.{eqb, ltb, lit<}
-use lib.ListN.{length, getD}
+use lib.Dec.{eqb, lit<}
+use lib.ListN.{getD}
 use Rattle.std.specs.Written.{digits}
 use Rattle.std.specs.shelf.Lists.{All}
 use Rattle.std.specs.declared.option.Option.the-variants.{Some, None}
-use Rattle.std.proofs.shelf.Tests.{cases-lt, cases-bool, both-ways, or-from, ne-eqb}
+use Rattle.std.proofs.shelf.Tests.{cases-lt, cases-bool, or-from, ne-eqb}
 use Rattle.semantics.specs.Access.{access}
 use Rattle.semantics.specs.Actions.{actionFormulas, admitted}
 use Rattle.semantics.specs.Chains.{rounds, settled}

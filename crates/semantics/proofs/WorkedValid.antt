@@ -1,14 +1,14 @@
 -- Sheet 7 is valid.
 use mathlib.Core.Path.{_≡_, refl}
 use mathlib.Core.Logic.{⊎-elim}
-use mathlib.Core.Bool.{Bool, true, _&&_, _||_}
+use mathlib.Core.Bool.{true, _&&_}
 use mathlib.Core.List.{List, [], _∷_}
 use Prim.Native.Nat.{ℕ, zero, suc, _^_, _<_, _≤_}
 use native.Mathlib.Omega.{arith}
 use lib.Dec.{eqb, ltb, lit<, lit≤}
 use lib.ListN.{length, getD}
 use Rattle.std.specs.shelf.Lists.{All}
-use Rattle.std.proofs.shelf.Tests.{and-parts, and-from, or-cases, eqb-true, ltb-true, eq-eqb, lt-ltb, cond-both, false≢true}
+use Rattle.std.proofs.shelf.Tests.{and-parts, and-from, or-cases, eqb-true, ltb-true, lt-ltb, cond-both, false≢true}
 use Rattle.semantics.specs.Validity.{Valid}
 use Rattle.semantics.specs.Worked.{pairs, positions7, copies7, moves7, sheet7}
 

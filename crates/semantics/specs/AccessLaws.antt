@@ -6,9 +6,11 @@ use Rattle.semantics.specs.Access.{access}
 use Rattle.semantics.specs.Formulas.{Formula, neg, or, EU, committed, fulfilled, Holds}
 use Rattle.semantics.specs.Sheets.{Sheet}
 
+-- access is transitive
 abbrev pub Access-transitive : Type 0
 Access-transitive = (h : Sheet) (i j s t u : ℕ) → access h i j s t ≡ true → access h i j t u ≡ true → access h i j s u ≡ true
 
+-- access is Euclidean
 abbrev pub Access-Euclidean : Type 0
 Access-Euclidean = (h : Sheet) (i j s t u : ℕ) → access h i j s t ≡ true → access h i j s u ≡ true → access h i j t u ≡ true
 
@@ -20,6 +22,7 @@ Access-shift-reflexive = (h : Sheet) (i j s t : ℕ) → access h i j s t ≡ tr
 abbrev pub Fulfilment-commits : Type 0
 Fulfilment-commits = (h : Sheet) (i j : ℕ) (f : Formula) (s : ℕ) → Holds h (fulfilled i j f) s → Holds h (committed i j f) s
 
+-- both f and g
 abbrev pub and : Formula → Formula → Formula
 and f g = neg (or (neg f) (neg g))
 

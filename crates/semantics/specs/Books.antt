@@ -1,6 +1,6 @@
 -- The reference state: the sheet, and while an amendment is open the stored sheet and the count of accepted edits.
 use mathlib.Core.Bool.{not}
-use mathlib.Core.List.{List, [], _∷_}
+use mathlib.Core.List.{[], _∷_}
 use Prim.Native.Nat.{ℕ, _+_}
 use lib.Dec.{eqb}
 use Rattle.std.specs.declared.option.Option.{Option}
@@ -8,10 +8,12 @@ use Rattle.std.specs.declared.option.Option.the-variants.{Some, None}
 use Rattle.semantics.specs.Edits.{Edit, edited, firstOf, editChecks}
 use Rattle.semantics.specs.Sheets.{Sheet}
 
+-- the sheet at begin, and how many edits were accepted since
 pub record Amending : Type 0 where
   pub stored : Sheet
   pub count : ℕ
 
+-- the sheet as it stands, and the open amendment
 pub record Book : Type 0 where
   pub sheet : Sheet
   pub amending : Option Amending
@@ -31,6 +33,7 @@ abbrev pub editRefusal : Sheet → Option Amending → ℕ → Edit → Option �
 editRefusal h None ticket e = Some 21
 editRefusal h (Some a) ticket e = firstOf ((not (eqb ticket (h .number)), 21) ∷ editChecks h (a .count) e)
 
+-- an amendment is open, with no edit yet
 abbrev pub begun : Book → Book
 begun b = record { sheet = b .sheet; amending = Some (record { stored = b .sheet; count = 0 }) }
 
@@ -39,6 +42,7 @@ abbrev pub counted : Option Amending → Option Amending
 counted None = None
 counted (Some a) = Some (record { stored = a .stored; count = a .count + 1 })
 
+-- an edit is made and counted
 abbrev pub amended : Book → Edit → Book
 amended b e = record { sheet = edited (b .sheet) e; amending = counted (b .amending) }
 
@@ -47,6 +51,7 @@ abbrev pub countOf : Option Amending → ℕ
 countOf None = 0
 countOf (Some a) = a .count
 
+-- the amendment is closed, and its edits stay
 abbrev pub kept : Book → Book
 kept b = record { sheet = b .sheet; amending = None }
 
@@ -55,6 +60,7 @@ abbrev pub storedOr : Sheet → Option Amending → Sheet
 storedOr h None = h
 storedOr h (Some a) = a .stored
 
+-- the amendment is closed, and the sheet is the stored one
 abbrev pub withdrawn : Book → Book
 withdrawn b = record { sheet = storedOr (b .sheet) (b .amending); amending = None }
 

@@ -34,6 +34,7 @@ pub record Limits : Type 0 where
   pub path : ℕ
   pub capacity : ℕ
 
+-- the number of a refusal, the number of a ticket, nothing further, the count of edits, verdict and rounds, a text, evidence
 pub data Answer : Type 0 where
   refused : ℕ → Answer
   ticket : ℕ → Answer

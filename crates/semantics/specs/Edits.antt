@@ -1,5 +1,5 @@
 -- Edits of a sheet, and when they are refused.
-use mathlib.Core.Bool.{Bool, true, cond, not, _&&_, _||_}
+use mathlib.Core.Bool.{Bool, cond, not, _&&_, _||_}
 use mathlib.Core.List.{List, [], _∷_}
 use Prim.Native.Nat.{ℕ, _^_}
 use lib.Dec.{eqb, leb, ltb}
@@ -20,6 +20,7 @@ pub data Edit : Type 0 where
   setValue : ℕ → ℕ → Value → ℕ → Edit
   setMarks : ℕ → ℕ → Edit
 
+-- the sheet with other moves
 abbrev pub withMoves : Sheet → (ℕ → ℕ → Bool) → Sheet
 withMoves h m = record {
   number = h .number;
@@ -36,6 +37,7 @@ withMoves h m = record {
   lines = h .lines;
 }
 
+-- the sheet with other marks, positions and copies
 abbrev pub withValues : Sheet → (ℕ → ℕ) → (ℕ → ℕ → ℕ) → (ℕ → ℕ → ℕ → ℕ) → Sheet
 withValues h m p c = record {
   number = h .number;

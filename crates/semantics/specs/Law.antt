@@ -20,15 +20,17 @@ use Rattle.semantics.specs.Reduction.{reduction}
 use Rattle.semantics.specs.Resolving.{querySet, queryRounds}
 use Rattle.semantics.specs.Sheets.{Sheet, Line, mark, negation, disjunction, next, globally, until, commitment, fulfilment, lineAt}
 
--- a call with what it is lent, and its answer with what the lent set holds after it
+-- a call with what it is lent
 pub record Entry : Type 0 where
   pub call : Call
   pub limits : Limits
 
+-- the answer of a call, and what the lent set holds after it
 pub record Outcome : Type 0 where
   pub answer : Answer
   pub set : ℕ → Bool
 
+-- the answer is a, and the lent set holds z
 abbrev pub Answers : Outcome → Answer → (ℕ → Bool) → Type 0
 Answers o a z = (o .answer ≡ a) × (o .set ≡ z)
 

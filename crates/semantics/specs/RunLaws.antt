@@ -19,6 +19,7 @@ use Rattle.semantics.specs.Reduction.{reduction, lastLine}
 use Rattle.semantics.specs.Sheets.{Sheet}
 use Rattle.semantics.specs.Validity.{Valid}
 
+-- the stored sheet is valid
 abbrev pub SoundAmending : Option Amending → Type 0
 SoundAmending None = Unit {0}
 SoundAmending (Some a) = Valid (a .stored)
@@ -57,6 +58,7 @@ OneAnswerTo h (resolve t k) o =
     accepted (o .answer) ≡ true → JudgedAs h f o
 OneAnswerTo h (show f s) o = Unit {0}
 
+-- the same in any reference state; without a sheet nothing is answered
 abbrev pub OneAnswer : Option Book → (ℕ → Bool) → Entry → Outcome → Type 0
 OneAnswer None z e o = accepted (o .answer) ≡ false
 OneAnswer (Some b) z e o = OneAnswerTo (b .sheet) (e .call) o
@@ -78,10 +80,12 @@ ShowsTo h m (show f s) o =
     f < length (h .lines) → s < h .states → 16384 ≤ m .work → h .states ≤ m .path → h .states ≤ m .capacity →
     ((e : Shown) × (o .answer ≡ shown e) × (Evidence h (treeAt h f) s e)) ↔ ((e : Shown) × (Evidence h (treeAt h f) s e))
 
+-- the same in any reference state
 abbrev pub Shows : Option Book → (ℕ → Bool) → Entry → Outcome → Type 0
 Shows None z e o = Unit {0}
 Shows (Some b) z e o = ShowsTo (b .sheet) (e .limits) (e .call) o
 
+-- in a lawful run show answers evidence exactly when some exists
 abbrev pub Runs-show : Type 0
 Runs-show = (r : Option Book) (z : ℕ → Bool) (es : List Entry) (os : List Outcome) → Sound r → Lawful r z es os → Throughout Shows r z es os
 
@@ -112,6 +116,7 @@ abbrev pub bookOver : Book → List Entry → Book
 bookOver b [] = b
 bookOver b (e ∷ es) = bookOver (bookAfter b (e .call)) es
 
+-- what is stored, and the count, are accounted for
 abbrev pub AccountedAmending : Sheet → Account → Option Amending → Type 0
 AccountedAmending first a None = a .pending ≡ []
 AccountedAmending first a (Some m) = (m .stored ≡ made first (a .lasting)) × (m .count ≡ length (a .pending))

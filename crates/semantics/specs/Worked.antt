@@ -1,6 +1,6 @@
 -- Sheet 7, and what the definitions say of it, as one table.
 use mathlib.Core.Path.{_≡_}
-use mathlib.Core.Bool.{Bool, true, false, cond, _&&_, _||_}
+use mathlib.Core.Bool.{Bool, false, cond, _&&_, _||_}
 use mathlib.Core.List.{List, [], _∷_, _++_, map}
 use Prim.Native.Nat.{ℕ, zero, suc}
 use Prim.Native.String.{String}
@@ -8,11 +8,10 @@ use lib.Chars.{codes}
 use lib.Dec.{eqb, ltb}
 use lib.ListN.{getD}
 use Rattle.std.specs.Joined.{joined}
-use Rattle.std.specs.declared.option.Option.{Option}
 use Rattle.std.specs.declared.option.Option.the-variants.{Some, None}
 use Rattle.semantics.specs.Access.{access}
 use Rattle.semantics.specs.Books.{Book}
-use Rattle.semantics.specs.Calls.{Call, begin, edit, keep, withdraw, judge, translate, resolve, show, Limits, Answer, refused, ticket, done, count, judged, written, shown}
+use Rattle.semantics.specs.Calls.{Call, begin, edit, withdraw, judge, translate, resolve, show, Answer, refused, ticket, done, count, judged, written, shown}
 use Rattle.semantics.specs.Edits.{joinMove, cutMove}
 use Rattle.semantics.specs.Evidence.{alone}
 use Rattle.semantics.specs.Judging.{lineSet, lineRounds, verdict}
@@ -29,12 +28,15 @@ abbrev pub pairs : List (ℕ × ℕ) → ℕ → ℕ → Bool
 pairs [] s t = false
 pairs (p ∷ ps) s t = (eqb s (p .0) && eqb t (p .1)) || pairs ps s t
 
+-- the positions of both parties at each state
 abbrev pub positions7 : List (List ℕ)
 positions7 = (0 ∷ 0 ∷ []) ∷ (1 ∷ 0 ∷ []) ∷ (1 ∷ 0 ∷ []) ∷ []
 
+-- their copies of the channel at each state
 abbrev pub copies7 : List (List ℕ)
 copies7 = (300 ∷ 300 ∷ []) ∷ (400 ∷ 300 ∷ []) ∷ (400 ∷ 400 ∷ []) ∷ []
 
+-- the moves
 abbrev pub moves7 : List (ℕ × ℕ)
 moves7 = (0, 1) ∷ (1, 2) ∷ (2, 0) ∷ []
 
@@ -59,12 +61,14 @@ sheet7 = record {
 abbrev pub bytes : List String → List ℕ
 bytes ls = joined (λ l. codes l ++ 10 ∷ []) ls
 
+-- the text of the sheet
 abbrev pub text7 : List ℕ
 text7 = bytes (
     "H,7,2,1,3,2" ∷ "C,0,0" ∷ "C,0,1" ∷ "S,0,1,0" ∷ "S,1,0,2" ∷ "S,2,0,3" ∷ "L,0,0,0,300" ∷ "L,0,1,0,300" ∷ "L,1,0,1,400" ∷ "L,1,1,0,300"
     ∷ "L,2,0,1,400" ∷ "L,2,1,0,400" ∷ "T,0,1" ∷ "T,1,2" ∷ "T,2,0" ∷ "F,0,M,0" ∷ "F,1,C,0,1,0" ∷ "F,2,K,0,1,0" ∷ "F,3,U,1,2" ∷ "F,4,X,3"
     ∷ "F,5,G,1" ∷ [])
 
+-- the query that stands for line 3
 abbrev pub query3 : List ℕ
 query3 = bytes ("A,0,R" ∷ "A,1,D,0,1" ∷ "A,2,D,0,1" ∷ "A,3,V,0,1" ∷ "B,0,M,0" ∷ "B,1,Y,1,0" ∷ "B,2,Y,2,0" ∷ "B,3,X,3,2" ∷ "B,4,U,0,1,3" ∷ [])
 
@@ -78,6 +82,7 @@ abbrev pub among : List ℕ → ℕ → Bool
 among [] k = false
 among (x ∷ xs) k = eqb k x || among xs k
 
+-- the sheet with no amendment open
 abbrev pub book7 : Book
 book7 = record { sheet = sheet7; amending = None }
 
@@ -89,6 +94,7 @@ asks c = record { call = c; limits = record { work = 16384; text = 1000; path = 
 abbrev pub gets : Answer → List ℕ → Outcome
 gets a zs = record { answer = a; set = among zs }
 
+-- a run: an amendment that is withdrawn, both roads, and evidence
 abbrev pub calls7 : List Entry
 calls7 =
     asks begin
@@ -105,6 +111,7 @@ calls7 =
     ∷ asks (show 2 2)
     ∷ []
 
+-- its answers
 abbrev pub answers7 : List Outcome
 answers7 =
     gets (ticket 7) []
@@ -121,6 +128,7 @@ answers7 =
     ∷ gets (shown (alone 1)) (2 ∷ [])
     ∷ []
 
+-- the table
 pub record Worked : Type 0 where
   pub valid : Valid sheet7
   pub text : sheetText sheet7 ≡ text7

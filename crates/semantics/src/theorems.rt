@@ -1,4 +1,4 @@
-// Each function holds one theorem in its contract.
+//! Each function holds one theorem in its contract.
 ghost use Rattle.semantics.specs.Settling.{Until-settles, Globally-settles};
 ghost use Rattle.semantics.specs.Truth.{Sets-are-truth};
 ghost use Rattle.semantics.specs.AccessLaws.{Access-transitive, Access-Euclidean, Access-shift-reflexive, Fulfilment-commits, Fulfilment-only-of-commitments};
