@@ -1,6 +1,6 @@
 -- Laws of access, commitment and fulfilment.
 use mathlib.Core.Path.{_≡_}
-use mathlib.Core.Bool.{true}
+use mathlib.Core.Bool.{true, false}
 use Prim.Native.Nat.{ℕ}
 use Rattle.semantics.specs.Access.{access}
 use Rattle.semantics.specs.Formulas.{Formula, neg, or, EU, committed, fulfilled, Holds}
@@ -17,6 +17,10 @@ Access-Euclidean = (h : Sheet) (i j s t u : ℕ) → access h i j s t ≡ true �
 -- what is accessible from some state is accessible from itself
 abbrev pub Access-shift-reflexive : Type 0
 Access-shift-reflexive = (h : Sheet) (i j s t : ℕ) → access h i j s t ≡ true → access h i j t t ≡ true
+
+-- a commitment holds where nothing is accessible
+abbrev pub Commitment-without-access : Type 0
+Commitment-without-access = (h : Sheet) (i j : ℕ) (f : Formula) (s : ℕ) → ((t : ℕ) → access h i j s t ≡ false) → Holds h (committed i j f) s
 
 -- where a fulfilment holds, its commitment holds
 abbrev pub Fulfilment-commits : Type 0

@@ -1,7 +1,7 @@
 //! Each function holds one theorem in its contract.
 ghost use Rattle.semantics.specs.Settling.{Until-settles, Globally-settles};
 ghost use Rattle.semantics.specs.Truth.{Sets-are-truth};
-ghost use Rattle.semantics.specs.AccessLaws.{Access-transitive, Access-Euclidean, Access-shift-reflexive, Fulfilment-commits, Fulfilment-only-of-commitments};
+ghost use Rattle.semantics.specs.AccessLaws.{Access-transitive, Access-Euclidean, Access-shift-reflexive, Commitment-without-access, Fulfilment-commits, Fulfilment-only-of-commitments};
 ghost use Rattle.semantics.specs.Resolving.{Query-sets-are-truth};
 ghost use Rattle.semantics.specs.Roads.{Two-roads};
 ghost use Rattle.semantics.specs.Evidence.{Evidence-where-due};
@@ -41,6 +41,12 @@ pub fn access_euclidean_stands() -> u8
 
 pub fn access_shift_reflexive_stands() -> u8
     ensures { λ _. ⌜ Access-shift-reflexive ⌝ }
+{
+    0
+}
+
+pub fn commitment_without_access_stands() -> u8
+    ensures { λ _. ⌜ Commitment-without-access ⌝ }
 {
     0
 }
