@@ -1,16 +1,16 @@
 -- Laws of access, by its three rules.
 use mathlib.Core.Path.{_≡_, refl, sym, _∙_}
 use mathlib.Core.Logic.{inl, inr}
-use mathlib.Core.Bool.{Bool, true, false, not, _&&_, _||_}
+use mathlib.Core.Bool.{Bool, true, false, not, _&&_}
 use Prim.Native.Nat.{ℕ, _<_}
 use lib.Dec.{eqb, ltb}
 use Rattle.std.specs.Orderings.{Decides}
-use Rattle.std.proofs.shelf.Tests.{and-parts, and-from, eqb-true, eq-eqb, false≢true}
+use Rattle.std.proofs.shelf.Tests.{and-parts, and-from, eqb-true, eq-eqb, both-ways, false≢true}
 use Rattle.semantics.specs.Sets.{all}
 use Rattle.semantics.specs.Sheets.{Sheet, shares}
 use Rattle.semantics.specs.Access.{implies, agree, sameLocal, handedOver, otherwiseKept, access}
-use Rattle.semantics.specs.Formulas.{Formula, committed, fulfilled, Holds}
-use Rattle.semantics.specs.AccessLaws.{Access-transitive, Access-Euclidean, Access-shift-reflexive, Fulfilment-commits, Fulfilment-only-of-commitments}
+use Rattle.semantics.specs.Formulas.{Holds}
+use Rattle.semantics.specs.AccessLaws.{Access-transitive, Access-Euclidean, Access-shift-reflexive, Commitment-without-access, Fulfilment-commits, Fulfilment-only-of-commitments}
 use Rattle.semantics.proofs.Quantifiers.{all-says}
 
 implies-says : (a b : Bool) → Decides (implies a b) (a ≡ true → b ≡ true)
@@ -100,6 +100,10 @@ access-Euclidean h i j s t u e f =
 
 pub access-shift-reflexive : Access-shift-reflexive
 access-shift-reflexive h i j s t e = access-Euclidean h i j s t t e e
+
+pub commitment-without-access : Commitment-without-access
+unfolding Holds
+commitment-without-access h i j f s none t l e = absurd (both-ways (access h i j s t) (none t) e)
 
 pub fulfilment-commits : Fulfilment-commits
 unfolding Holds

@@ -38,3 +38,16 @@ count-falls (suc n) q p h k l e f = elim (cases-eq k n) [
       omega (arith, count-mono n q p h))
   | inr ne ↦ omega (arith, count-falls n q p h k (omega (arith, ne)) e f, one-mono (q n) (p n) (h n))
 ]
+
+-- a set with at most one state more has at most one more
+pub count-plus : (n : ℕ) (q p : ℕ → Bool) (x : ℕ) → ((k : ℕ) → (k ≡ x → ⊥) → q k ≡ true → p k ≡ true) →
+    (n ≤ x → count n q ≤ count n p) × (count n q ≤ count n p + 1)
+count-plus zero q p x h = (λ _. omega arith, omega arith)
+count-plus (suc n) q p x h =
+    let r = count-plus n q p x h in (
+      λ l. omega (arith, r .0 (omega arith), one-mono (q n) (p n) (h n (λ e. omega arith))),
+      elim (cases-eq n x) [
+        | inl e ↦ omega (arith, r .0 (omega arith), one-le (q n))
+        | inr ne ↦ omega (arith, r .1, one-mono (q n) (p n) (h n ne))
+      ],
+    )

@@ -1,9 +1,7 @@
 -- Every formula has a set, so it is decided at every state.
-use mathlib.Core.Path.{_≡_}
-use mathlib.Core.Logic.{_⊎_, inl, inr, ⊎-elim}
 use mathlib.Core.Bool.{Bool}
-use mathlib.Core.List.{List, [], _∷_}
-use Prim.Native.Nat.{ℕ, _<_}
+use mathlib.Core.List.{[], _∷_}
+use Prim.Native.Nat.{ℕ}
 use Rattle.semantics.specs.Sheets.{Sheet, mark, negation, disjunction, next, globally, until, commitment, fulfilment}
 use Rattle.semantics.specs.Validity.{Valid}
 use Rattle.semantics.specs.Formulas.{Formula, atom, neg, or, EX, EG, EU, committed, fulfilled}

@@ -1,8 +1,7 @@
 -- Evidence exists exactly where it is due.
-use mathlib.Core.Path.{_≡_, refl, sym, ap, _∙_, subst}
+use mathlib.Core.Path.{_≡_, refl, subst}
 use mathlib.Core.Logic.{_⊎_, inl, inr, ⊎-elim}
 use mathlib.Core.Bool.{Bool, true, false, not, _&&_}
-use mathlib.Core.List.{List}
 use Prim.Native.Nat.{ℕ, suc, _-_, _<_}
 use native.Mathlib.Omega.{arith}
 use lib.ListN.{length, getD}
@@ -13,18 +12,18 @@ use Rattle.std.proofs.shelf.Ways.{decides-and, decides-not}
 use Rattle.semantics.specs.Sets.{any, least}
 use Rattle.semantics.specs.Access.{commitmentAccess, fulfilmentAccess}
 use Rattle.semantics.specs.Chains.{untilChain, globallyChain, rounds, settled}
-use Rattle.semantics.specs.Paths.{Leads, SomeStep, EveryStep, Globally, Until, FiniteUntil}
+use Rattle.semantics.specs.Paths.{Leads, SomeStep, EveryStep, Globally, Until}
 use Rattle.semantics.specs.Sheets.{Sheet}
 use Rattle.semantics.specs.Validity.{Valid}
 use Rattle.semantics.specs.Formulas.{Formula, atom, neg, or, EX, EG, EU, committed, fulfilled, Holds}
-use Rattle.semantics.specs.Evidence.{Shown, alone, Lowest, Walk, Reaching, Looping, Evidence, Due, Evidence-where-due}
-use Rattle.semantics.proofs.Quantifiers.{any-says, least-le, least-at, least-before}
+use Rattle.semantics.specs.Evidence.{Shown, alone, Lowest, Reaching, Looping, Evidence, Due, Evidence-where-due}
+use Rattle.semantics.proofs.Quantifiers.{any-says, least-at, least-before}
 use Rattle.semantics.proofs.Paths.{endless, next-is, until-is}
-use Rattle.semantics.proofs.Searches.{Means, means-at, globally-means, globally-inside, globally-closed, until-means}
+use Rattle.semantics.proofs.Searches.{means-at, globally-means, globally-inside, globally-closed, until-means}
 use Rattle.semantics.proofs.Truth.{rule-says, every-state-moves}
 use Rattle.semantics.proofs.Decided.{set-of}
-use Rattle.semantics.proofs.Walks.{Descent, descent}
-use Rattle.semantics.proofs.Lassos.{Lasso, lasso}
+use Rattle.semantics.proofs.Walks.{descent}
+use Rattle.semantics.proofs.Lassos.{lasso}
 
 -- of what a test decides, there is a lowest where there is some
 lowest : (n : ℕ) (p : ℕ → Bool) (Q : ℕ → Type 0) → ((t : ℕ) → t < n → Decides (p t) (Q t)) → (t : ℕ) → t < n → Q t → (u : ℕ) × (Lowest n Q u)

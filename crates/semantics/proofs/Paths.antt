@@ -1,6 +1,6 @@
 -- Paths are made from steps, and finite paths go on where every state has a step.
-use mathlib.Core.Path.{_≡_, refl, sym, _∙_}
-use Prim.Native.Nat.{ℕ, zero, suc, _<_, _≤_}
+use mathlib.Core.Path.{refl}
+use Prim.Native.Nat.{ℕ, zero, suc, _<_}
 use native.Mathlib.Omega.{arith}
 use Rattle.semantics.specs.Paths.{Endless, Finite, UpTo, SomeStep, Next, Globally, Until, FiniteUntil}
 

@@ -64,7 +64,7 @@ module _ (h : Sheet) (ps : List (Action → Bool)) where
   under : (d : ℕ) (x : Action) → getD ps d never ≡ sameAction x → isAction h x ≡ true → stepsUnder h ps d ≡ stepsBy h x
   under d x e on = ap (admitted h) e ∙ fun-ext (λ s. fun-ext (λ t. only-admits h x on s t))
 
-  is-pair : (i j : ℕ) (b : Bool) → (paired h i j && b) ≡ true → (ltb i (h .parties) && ltb j (h .parties)) ≡ true
+  pub is-pair : (i j : ℕ) (b : Bool) → (paired h i j && b) ≡ true → (ltb i (h .parties) && ltb j (h .parties)) ≡ true
   is-pair i j b e =
       let p = and-parts (ltb i (h .parties)) _ (and-parts (paired h i j) b e .0) in
       and-from (ltb i (h .parties)) (ltb j (h .parties)) (p .0) (and-parts (ltb j (h .parties)) _ (p .1) .0)

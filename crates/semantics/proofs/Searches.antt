@@ -1,16 +1,16 @@
 -- What the sets of next states and the settled chains say of steps and paths.
-use mathlib.Core.Path.{_≡_, refl, sym, ap, _∙_}
-use mathlib.Core.Logic.{_⊎_, inl, inr, ⊎-elim}
+use mathlib.Core.Path.{_≡_, refl, sym, _∙_}
+use mathlib.Core.Logic.{⊎-elim}
 use mathlib.Core.Bool.{Bool, true, false, not, _&&_, _||_}
-use Prim.Native.Nat.{ℕ, zero, suc, _<_, _≤_}
+use Prim.Native.Nat.{ℕ, zero, suc, _<_}
 use native.Mathlib.Omega.{arith}
 use lib.Dec.{ltb}
 use Rattle.std.specs.Orderings.{Decides}
-use Rattle.std.proofs.shelf.Tests.{and-parts, and-from, or-cases, or-left, or-right, not-true, not-from-false, both-ways, ltb-true, lt-ltb, cases-bool}
+use Rattle.std.proofs.shelf.Tests.{and-parts, and-from, or-cases, or-left, or-right, ltb-true, lt-ltb}
 use Rattle.std.proofs.shelf.Ways.{decides-like}
 use Rattle.semantics.specs.Sets.{below, into, within, someNext, everyNext}
-use Rattle.semantics.specs.Chains.{untilStep, untilChain, globallyStep, globallyChain, rounds, settled}
-use Rattle.semantics.specs.Paths.{Endless, Finite, UpTo, SomeStep, EveryStep, Globally, FiniteUntil}
+use Rattle.semantics.specs.Chains.{untilChain, globallyChain, rounds, settled}
+use Rattle.semantics.specs.Paths.{Finite, UpTo, SomeStep, EveryStep, Globally, FiniteUntil}
 use Rattle.semantics.proofs.Quantifiers.{any-says, all-says}
 use Rattle.semantics.proofs.Settling.{until-settles, globally-settles}
 use Rattle.semantics.proofs.Paths.{endless, cons-until}

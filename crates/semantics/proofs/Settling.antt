@@ -1,12 +1,12 @@
 -- A chain whose measure falls at each change settles.
-use mathlib.Core.Path.{_≡_, refl, sym, ap, _∙_}
-use mathlib.Core.Logic.{_⊎_, inl, inr, ⊎-elim}
+use mathlib.Core.Path.{_≡_, refl, sym, _∙_}
+use mathlib.Core.Logic.{⊎-elim}
 use mathlib.Core.Bool.{Bool, true, false, _&&_, _||_}
 use Prim.Native.Nat.{ℕ, zero, suc, _+_, _-_, _<_, _≤_}
 use native.Mathlib.Omega.{arith}
 use lib.Dec.{ltb}
-use Rattle.std.proofs.shelf.Tests.{cases-bool, cases-lt, both-ways, and-parts, and-left, and-right, or-left, or-from, ltb-true, le-ltb}
-use Rattle.semantics.specs.Sets.{Same, below, into, count, same, least}
+use Rattle.std.proofs.shelf.Tests.{cases-bool, cases-lt, both-ways, and-parts, and-left, or-left, or-from, le-ltb}
+use Rattle.semantics.specs.Sets.{Same, below, count, same, least}
 use Rattle.semantics.specs.Chains.{iterate, untilStep, untilChain, globallyStep, globallyChain, rounds, settled}
 use Rattle.semantics.specs.Settling.{Settles, Until-settles, Globally-settles}
 use Rattle.semantics.proofs.Quantifiers.{same-says, differ, least-le, least-at, least-before}

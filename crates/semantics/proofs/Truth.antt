@@ -1,16 +1,14 @@
 -- The set of each line has the states at which its formula holds.
-use mathlib.Core.Path.{_≡_, refl, sym, _∙_}
-use mathlib.Core.Logic.{_⊎_, inl, inr}
-use mathlib.Core.Bool.{Bool, true, false, _||_, false≢true}
+use mathlib.Core.Logic.{inl, inr}
+use mathlib.Core.Bool.{Bool, false≢true}
 use mathlib.Core.List.{List, []}
 use Prim.Native.Nat.{ℕ, _<_}
 use lib.ListN.{getD}
 use Rattle.std.specs.Orderings.{Decides}
 use Rattle.std.proofs.shelf.Ways.{decides-not, decides-or}
 use Rattle.semantics.specs.Access.{commitmentAccess, fulfilmentAccess}
-use Rattle.semantics.specs.Sets.{nothing, union, below, outside, hasStep, everyNext, reversed}
-use Rattle.semantics.specs.Chains.{untilChain, globallyChain, rounds, settled}
-use Rattle.semantics.specs.Paths.{Leads, SomeStep, EveryStep, Next, Globally, Until, FiniteUntil}
+use Rattle.semantics.specs.Sets.{nothing, union, outside, hasStep, everyNext, reversed}
+use Rattle.semantics.specs.Paths.{Leads, SomeStep}
 use Rattle.semantics.specs.Sheets.{Sheet, Line, mark, negation, disjunction, next, globally, until, commitment, fulfilment, marked}
 use Rattle.semantics.specs.Validity.{Valid}
 use Rattle.semantics.specs.Formulas.{Formula, Holds, Committed, falsity, treeOf, trees}

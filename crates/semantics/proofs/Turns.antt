@@ -1,11 +1,11 @@
 -- Lists made in turn from items that are alike.
-use mathlib.Core.Path.{_≡_, refl, ap, _∙_}
+use mathlib.Core.Path.{_≡_, refl, sym, ap, _∙_}
 use mathlib.Core.List.{List, [], _∷_, _++_}
 use Prim.Native.Nat.{ℕ, zero, suc, _+_, _<_}
 use native.Mathlib.Nat.{zero-add}
 use native.Mathlib.Omega.{arith}
-use lib.ListN.{length, getD, length-append}
-use Rattle.std.proofs.shelf.Lists.{getD-append-left, getD-push}
+use lib.ListN.{length, getD, take, drop, length-append}
+use Rattle.std.proofs.shelf.Lists.{getD-append-left, getD-push, take-append-drop, drop-more, length-take-le}
 use Rattle.semantics.specs.Turns.{inTurn}
 
 -- two lists of one length, with R between the items at each place
@@ -72,3 +72,14 @@ module _ {L X : Type 0} (make : List X → L → X) where
       ap (λ z. getD z (length xs) d) (turn-append xs (x ∷ ys) [])
       ∙ turn-keeps ys (done ++ make done x ∷ []) d (length xs) (simp length-append (omega arith))
       ∙ getD-push done (make done x) d (length xs) e
+
+-- a list around one of its places
+pub split-at : {L : Type 0} (ls : List L) (f : ℕ) (d : L) → f < length ls → ls ≡ take f ls ++ getD ls f d ∷ drop (f + 1) ls
+split-at ls f d l = sym (take-append-drop f ls) ∙ ap (λ w. take f ls ++ w) (drop-more ls f d l)
+
+pub turn-nth : {L X : Type 0} (make : List X → L → X) (ls : List L) (f : ℕ) (d : L) (e : X) → f < length ls →
+    getD (inTurn make [] ls) f e ≡ make (inTurn make [] (take f ls)) (getD ls f d)
+turn-nth make ls f d e l =
+    ap (λ w. getD (inTurn make [] w) f e) (split-at ls f d l)
+    ∙ ap (λ k. getD (inTurn make [] (take f ls ++ getD ls f d ∷ drop (f + 1) ls)) k e) (sym (length-take-le f ls (omega arith)))
+    ∙ turn-at make (take f ls) (drop (f + 1) ls) (getD ls f d) e

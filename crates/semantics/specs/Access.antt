@@ -5,6 +5,7 @@ use lib.Dec.{eqb, ltb}
 use Rattle.semantics.specs.Sets.{all}
 use Rattle.semantics.specs.Sheets.{Sheet, shares}
 
+-- where a is true, b is
 abbrev pub implies : Bool → Bool → Bool
 implies a b = not a || b
 
@@ -34,9 +35,10 @@ unfoldable pub access : Sheet → ℕ → ℕ → ℕ → ℕ → Bool
 access h i j s t =
     (ltb s (h .states) && ltb t (h .states)) && (sameLocal h i s t && (handedOver h i j s t && otherwiseKept h i j s t))
 
--- access for commitments, and access for their fulfilment
+-- access for commitments
 abbrev pub commitmentAccess : Sheet → ℕ → ℕ → ℕ → ℕ → Bool
 commitmentAccess = access
 
+-- access for their fulfilment
 abbrev pub fulfilmentAccess : Sheet → ℕ → ℕ → ℕ → ℕ → Bool
 fulfilmentAccess = access

@@ -1,14 +1,16 @@
 -- Laws of access, commitment and fulfilment.
 use mathlib.Core.Path.{_≡_}
-use mathlib.Core.Bool.{true}
+use mathlib.Core.Bool.{true, false}
 use Prim.Native.Nat.{ℕ}
 use Rattle.semantics.specs.Access.{access}
 use Rattle.semantics.specs.Formulas.{Formula, neg, or, EU, committed, fulfilled, Holds}
 use Rattle.semantics.specs.Sheets.{Sheet}
 
+-- access is transitive
 abbrev pub Access-transitive : Type 0
 Access-transitive = (h : Sheet) (i j s t u : ℕ) → access h i j s t ≡ true → access h i j t u ≡ true → access h i j s u ≡ true
 
+-- access is Euclidean
 abbrev pub Access-Euclidean : Type 0
 Access-Euclidean = (h : Sheet) (i j s t u : ℕ) → access h i j s t ≡ true → access h i j s u ≡ true → access h i j t u ≡ true
 
@@ -16,10 +18,15 @@ Access-Euclidean = (h : Sheet) (i j s t u : ℕ) → access h i j s t ≡ true �
 abbrev pub Access-shift-reflexive : Type 0
 Access-shift-reflexive = (h : Sheet) (i j s t : ℕ) → access h i j s t ≡ true → access h i j t t ≡ true
 
+-- a commitment holds where nothing is accessible
+abbrev pub Commitment-without-access : Type 0
+Commitment-without-access = (h : Sheet) (i j : ℕ) (f : Formula) (s : ℕ) → ((t : ℕ) → access h i j s t ≡ false) → Holds h (committed i j f) s
+
 -- where a fulfilment holds, its commitment holds
 abbrev pub Fulfilment-commits : Type 0
 Fulfilment-commits = (h : Sheet) (i j : ℕ) (f : Formula) (s : ℕ) → Holds h (fulfilled i j f) s → Holds h (committed i j f) s
 
+-- both f and g
 abbrev pub and : Formula → Formula → Formula
 and f g = neg (or (neg f) (neg g))
 

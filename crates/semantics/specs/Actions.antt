@@ -33,6 +33,7 @@ stepsBy h R = h .moves
 stepsBy h (D i j) = commitmentAccess h i j
 stepsBy h (V i j) = reversed (fulfilmentAccess h i j)
 
+-- two actions are the same
 abbrev pub sameAction : Action → Action → Bool
 sameAction R R = true
 sameAction R (D i j) = false

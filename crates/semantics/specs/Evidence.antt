@@ -17,6 +17,7 @@ pub record Shown : Type 0 where
   pub path : List ℕ
   pub place : Option ℕ
 
+-- one state alone
 abbrev pub alone : ℕ → Shown
 alone t = record { path = t ∷ []; place = None }
 

@@ -9,6 +9,7 @@ pub record Fault : Type 0 where
   pub line : ℕ
   pub field : ℕ
 
+-- refused with number r at line l and field f
 abbrev pub refusedAt : {A : Type 0} → ℕ → ℕ → ℕ → Result A Fault
 refusedAt r l f = Err (record { why = r; line = l; field = f })
 

@@ -11,6 +11,7 @@ use Rattle.semantics.specs.Sets.{reversed}
 use Rattle.semantics.specs.Sheets.{Sheet, Line, mark, negation, disjunction, next, globally, until, commitment, fulfilment, marked}
 use Rattle.semantics.specs.Turns.{inTurn}
 
+-- marks, not, or, the existential path operators, commitment and fulfilment of a debtor to a creditor
 pub data Formula : Type 0 where
   atom : ℕ → Formula
   neg : Formula → Formula

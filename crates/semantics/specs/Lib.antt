@@ -24,3 +24,9 @@ pub mod Cuts
 pub mod Numbers
 pub mod QueryReading
 pub mod ReadBack
+pub mod Edits
+pub mod Books
+pub mod Calls
+pub mod Law
+pub mod RunLaws
+pub mod Worked

@@ -20,5 +20,6 @@ digitsFrom n (b ∷ bs) = cond (digit b) (digitsFrom (n * 10 + (b - 48)) bs) Non
 abbrev pub shaped : List ℕ → Bool
 shaped bs = ltb 0 (length bs) && (leb (length bs) 5 && (eqb (length bs) 1 || not (eqb (getD bs 0 0) 48)))
 
+-- the number that a field is
 abbrev pub numberOf : List ℕ → Option ℕ
 numberOf bs = cond (shaped bs) (digitsFrom 0 bs) None

@@ -7,7 +7,7 @@ use lib.ListN.{length, getD, drop}
 use Rattle.std.specs.declared.option.Option.{Option}
 use Rattle.std.specs.declared.option.Option.the-variants.{Some, None}
 use Rattle.std.specs.declared.result.Result.{Result}
-use Rattle.std.specs.declared.result.Result.the-variants.{Ok, Err}
+use Rattle.std.specs.declared.result.Result.the-variants.{Ok}
 use Rattle.semantics.specs.Actions.{ActionLine, only, except, either, R, D, V}
 use Rattle.semantics.specs.Cuts.{linesOf, fieldsOf, countOf}
 use Rattle.semantics.specs.Faults.{Fault, refusedAt, andThen}
@@ -25,6 +25,7 @@ pub record Letter (X : Type 0) : Type 0 where
   pub kinds : List Kind
   pub makes : List ℕ → X
 
+-- an entry of a table of letters
 abbrev pub letter : {X : Type 0} → ℕ → List Kind → (List ℕ → X) → Letter X
 letter b ks f = record { byte = b; kinds = ks; makes = f }
 
@@ -32,6 +33,7 @@ letter b ks f = record { byte = b; kinds = ks; makes = f }
 abbrev pub at : List ℕ → ℕ → ℕ
 at xs i = getD xs i 0
 
+-- the letters of A lines
 abbrev pub actionLetters : List (Letter ActionLine)
 actionLetters =
     letter 82 [] (λ xs. only R)
@@ -41,6 +43,7 @@ actionLetters =
     ∷ letter 79 (anOperand ∷ anOperand ∷ []) (λ xs. either (at xs 0) (at xs 1))
     ∷ []
 
+-- the letters of B lines
 abbrev pub queryLetters : List (Letter QueryLine)
 queryLetters =
     letter 77 (aMark ∷ []) (λ xs. atom (at xs 0))
@@ -116,9 +119,11 @@ letteredLine table most h acts due n fs =
 abbrev pub actionsDue : Query → Bool
 actionsDue q = eqb (length (q .lines)) 0
 
+-- one A line more
 abbrev pub withAction : Query → ActionLine → Query
 withAction q l = record { actions = q .actions ++ l ∷ []; lines = q .lines }
 
+-- one B line more
 abbrev pub withLine : Query → QueryLine → Query
 withLine q l = record { actions = q .actions; lines = q .lines ++ l ∷ [] }
 
@@ -140,6 +145,7 @@ linesRead h n q (l ∷ ls) = andThen (lineRead h n q (fieldsOf l)) (λ p. linesR
 abbrev pub finished : List ℕ → Bool
 finished t = ltb 0 (length t) && eqb (getD t (length t - 1) 0) 10
 
+-- no lines
 abbrev pub emptyQuery : Query
 emptyQuery = record { actions = []; lines = [] }
 

@@ -44,6 +44,7 @@ abbrev pub reduceLine : Reduced → Line → Reduced
 reduceLine r l =
     extended r (r .due + length (actionLines l)) (r .written ++ queryLines (r .due) (length (r .written)) (λ a. getD (r .stands) a 0) l)
 
+-- formula lines one by one
 abbrev pub reduced : Reduced → List Line → Reduced
 reduced r [] = r
 reduced r (l ∷ ls) = reduced (reduceLine r l) ls

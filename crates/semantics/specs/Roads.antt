@@ -1,6 +1,5 @@
 -- Judging a line, and resolving its reduction at the last B line, agree.
 use mathlib.Core.Path.{_≡_}
-use mathlib.Core.Bool.{Bool}
 use Prim.Native.Nat.{ℕ, _<_}
 use lib.ListN.{length}
 use Rattle.semantics.specs.Judging.{lineSet, lineRounds, verdict}

@@ -26,6 +26,7 @@ copiesText h s p = textsBelow (h .channels) (λ c. cond (h .holds c p) (44 ∷ d
 abbrev pub localText : Sheet → ℕ → ℕ → List ℕ
 localText h s p = (76 ∷ []) ++ (fieldsText (s ∷ p ∷ h .position s p ∷ []) ++ (copiesText h s p ++ 10 ∷ []))
 
+-- an L line for each state and party
 abbrev pub localsText : Sheet → List ℕ
 localsText h = textsBelow (h .states) (λ s. textsBelow (h .parties) (localText h s))
 

@@ -8,6 +8,7 @@ use lib.ListN.{length}
 use Rattle.semantics.specs.Sets.{any, all, count, hasStep}
 use Rattle.semantics.specs.Sheets.{Sheet, Line, mark, negation, disjunction, next, globally, until, commitment, fulfilment, shares}
 
+-- x is at least low and at most high
 abbrev pub between : ℕ → ℕ → ℕ → Bool
 between low high x = leb low x && leb x high
 
@@ -16,6 +17,7 @@ abbrev pub movesFrom : Sheet → ℕ → ℕ
 movesFrom h zero = 0
 movesFrom h (suc k) = count (h .states) (h .moves k) + movesFrom h k
 
+-- how many moves there are
 abbrev pub moveCount : Sheet → ℕ
 moveCount h = movesFrom h (h .states)
 

@@ -1,2 +1,2 @@
-// What a sheet, its formulas and its runs mean, as definitions and theorems.
-mod theorems;
+//! What a sheet, its formulas, queries, amendments and runs mean: definitions, and theorems on contracts.
+pub mod theorems;
