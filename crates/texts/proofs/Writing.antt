@@ -12,9 +12,6 @@ use Rattle.std.proofs.shelf.Lists.{take-more, take-all, take-more-set, take-app
 use Rattle.texts.specs.declared.writer.Writer.{Writer}
 use Rattle.texts.specs.Written.{over, onward, Gave, fieldsText, textsBelow}
 
-pub onward-more : (p m n : ℕ) → onward (onward p m) n ≡ onward p (m + n)
-onward-more p m n = omega arith
-
 pub over-over : (xs old ys : List ℕ) (p : ℕ) → p < 2 ^ 64 → over (over old p xs) (onward p (length xs)) ys ≡ over old p (xs ++ ys)
 over-over [] old ys p h = let e : onward p 0 ≡ p = omega arith in ap (λ n. over old n ys) e
 over-over (x ∷ xs) old ys p h =
@@ -78,9 +75,6 @@ pub gave-front : (text old : List ℕ) (w v : Writer) → now (w .buffer) ≡ ol
 gave-front text old w v e z g h l =
     (g .bytes ∙ (λ i. over (e i) (z i) text) ∙ over-front text old h l, omega (arith, g .counted, z))
 
--- a text that is longer than 65536 bytes, or not
-pub gave-long : (text : List ℕ) (w v : Writer) → w .length ≡ 0 → Gave w text v → 65536 < v .length → 65536 < length text
-gave-long text w v z g h = omega (arith, g .counted, z)
-
+-- a text that was counted as at most 65536 bytes is as long as the count
 pub gave-short : (text : List ℕ) (w v : Writer) → w .length ≡ 0 → Gave w text v → v .length ≤ 65536 → v .length ≡ length text
 gave-short text w v z g h = omega (arith, g .counted, z)
