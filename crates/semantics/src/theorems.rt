@@ -7,6 +7,7 @@ ghost use Rattle.semantics.specs.Roads.{Two-roads};
 ghost use Rattle.semantics.specs.Evidence.{Evidence-where-due};
 ghost use Rattle.semantics.specs.ReadBack.{Reductions-read-back};
 ghost use Rattle.semantics.specs.RunLaws.{Runs-agree, Runs-show, Runs-account};
+ghost use Rattle.semantics.specs.Determined.{Texts-determine};
 ghost use Rattle.semantics.specs.Worked.{Worked};
 
 pub fn until_settles_stands() -> u8
@@ -101,6 +102,12 @@ pub fn runs_show_stands() -> u8
 
 pub fn runs_account_stands() -> u8
     ensures { λ _. ⌜ Runs-account ⌝ }
+{
+    0
+}
+
+pub fn texts_determine_stands() -> u8
+    ensures { λ _. ⌜ Texts-determine ⌝ }
 {
     0
 }
