@@ -11,15 +11,15 @@ use Rattle.semantics.specs.Cuts.{prefixed, linesOf, fieldsOf}
 use Rattle.semantics.specs.Written.{fieldsText, letteredText}
 use Rattle.semantics.proofs.Decimals.{Lacks, lacks-append, decimal-lacks, decimal-length}
 
-lines-cons : (body rest : List ℕ) → Lacks 10 body → linesOf (body ++ 10 ∷ rest) ≡ body ∷ linesOf rest
+pub lines-cons : (body rest : List ℕ) → Lacks 10 body → linesOf (body ++ 10 ∷ rest) ≡ body ∷ linesOf rest
 lines-cons [] rest p = refl
 lines-cons (b ∷ body) rest p = cond-false (eqb b 10) _ _ (ne-eqb b 10 (p .0)) ∙ ap (prefixed b) (lines-cons body rest (p .1))
 
-fields-cons : (piece rest : List ℕ) → Lacks 44 piece → fieldsOf (piece ++ 44 ∷ rest) ≡ piece ∷ fieldsOf rest
+pub fields-cons : (piece rest : List ℕ) → Lacks 44 piece → fieldsOf (piece ++ 44 ∷ rest) ≡ piece ∷ fieldsOf rest
 fields-cons [] rest p = refl
 fields-cons (b ∷ piece) rest p = cond-false (eqb b 44) _ _ (ne-eqb b 44 (p .0)) ∙ ap (prefixed b) (fields-cons piece rest (p .1))
 
-fields-last : (piece : List ℕ) → Lacks 44 piece → fieldsOf piece ≡ piece ∷ []
+pub fields-last : (piece : List ℕ) → Lacks 44 piece → fieldsOf piece ≡ piece ∷ []
 fields-last [] p = refl
 fields-last (b ∷ piece) p = cond-false (eqb b 44) _ _ (ne-eqb b 44 (p .0)) ∙ ap (prefixed b) (fields-last piece (p .1))
 

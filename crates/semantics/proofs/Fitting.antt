@@ -12,7 +12,7 @@ use Rattle.std.specs.Joined.{joined}
 use Rattle.std.proofs.shelf.Lists.{getD-append-left, getD-push, length-push, length-take-le}
 use Rattle.std.proofs.shelf.Tests.{and-parts, and-from, ltb-true, lt-ltb, cases-eq}
 use Rattle.semantics.specs.Queries.{QueryLine}
-use Rattle.semantics.specs.ReadBack.{actionFits, queryLineFits, eachFits, QueryFits, Reductions-read-back}
+use Rattle.semantics.specs.ReadBack.{actionFits, queryLineFits, eachFits, QueryFits, Queries-read-back, Reductions-read-back}
 use Rattle.semantics.specs.Reduction.{actionLines, queryLines, Reduced, reduceLine, reduced, nothingReduced, queryOf, reduction}
 use Rattle.semantics.specs.Sheets.{Sheet, Line, mark, negation, disjunction, next, globally, until, commitment, fulfilment}
 use Rattle.semantics.specs.Validity.{paired, lineFits, linesFit}
@@ -143,7 +143,7 @@ module _ (h : Sheet) where
       let f = fine-lines acts (omega arith) ls 0 nothingReduced
       (record { known = refl; low = λ a l. absurd (omega arith); fit = refl; most = omega arith; least = omega arith }) e (omega arith) in
       record {
-        some-lines = omega (arith, f .least);
+        some-line = omega (arith, f .least);
         few-actions = omega (arith, joined-few ls);
         few-lines = omega (arith, f .most);
         actions-fit = actions-fit ls 0 1 e;
@@ -157,10 +157,12 @@ front-fits h (suc n) (l ∷ ls) k e =
     let p = and-parts (lineFits h k l) (linesFit h (k + 1) ls) e in
     and-from (lineFits h k l) _ (p .0) (front-fits h n ls (k + 1) (p .1))
 
+pub queries-read-back : Queries-read-back
+queries-read-back h v q fits = let lim = limits h v in query-reads-back h (lim .few-parties) (lim .few-marks) q fits
+
 pub reductions-read-back : Reductions-read-back
 unfolding reduction
 reductions-read-back h v f l =
-    let lim = limits h v in
     let len : length (take (f + 1) (h .lines)) ≡ f + 1 = length-take-le (f + 1) (h .lines) (omega arith) in
-    query-reads-back h (lim .few-parties) (lim .few-marks) (queryOf (take (f + 1) (h .lines)))
-    (query-fits h (take (f + 1) (h .lines)) (front-fits h (f + 1) (h .lines) 0 (v .lines-fit)) (omega arith) (omega (arith, lim .few-lines)))
+    queries-read-back h v (queryOf (take (f + 1) (h .lines)))
+    (query-fits h (take (f + 1) (h .lines)) (front-fits h (f + 1) (h .lines) 0 (v .lines-fit)) (omega arith) (omega (arith, limits h v .few-lines)))

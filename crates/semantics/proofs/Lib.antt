@@ -29,3 +29,9 @@ pub mod Accounts
 pub mod WorkedValid
 pub mod WorkedRun
 pub mod Worked
+pub mod Rows
+pub mod SheetRows
+pub mod SheetClean
+pub mod Sections
+pub mod LinesDetermined
+pub mod Determined

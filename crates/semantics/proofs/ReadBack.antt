@@ -1,5 +1,6 @@
 -- The text of a query that fits a sheet reads back as the query.
 use mathlib.Core.Path.{_≡_, sym, ap, _∙_}
+use mathlib.Core.Logic.{⊎-elim}
 use mathlib.Core.Bool.{Bool, true}
 use mathlib.Core.List.{List, [], _∷_, _++_, map, append-assoc, append-nil}
 use Prim.Native.Nat.{ℕ, _+_, _-_, _*_, _<_, _≤_}
@@ -9,8 +10,8 @@ use lib.ListN.{length, length-append}
 use Rattle.std.specs.declared.result.Result.{Result}
 use Rattle.std.specs.declared.result.Result.the-variants.{Ok}
 use Rattle.std.specs.Written.{decimal}
-use Rattle.std.proofs.shelf.Lists.{getD-push, length-push}
-use Rattle.std.proofs.shelf.Tests.{cond-true, cond-false, and-parts, and-from, eq-eqb, le-ltb, lt-ltb}
+use Rattle.std.proofs.shelf.Lists.{getD-push, length-push, nil-from-length}
+use Rattle.std.proofs.shelf.Tests.{cond-true, cond-false, and-parts, and-from, eq-eqb, le-ltb, lt-ltb, cases-lt}
 use Rattle.semantics.specs.Actions.{ActionLine}
 use Rattle.semantics.specs.Cuts.{linesOf}
 use Rattle.semantics.specs.Faults.{Fault, andThen}
@@ -82,11 +83,11 @@ module _ (h : Sheet) (small-parties : h .parties ≤ 6) (small-marks : h .marks 
   action-spelled : (k : ℕ) (x : ActionLine) → k < 160 → actionFits h k x ≡ true → Spelled actionLetters h k k 65 x (actionText k x)
   action-spelled k x l e = spelled-action h k k small-parties small-marks (omega arith) (omega arith) x e
 
-  line-spelled : (acts k : ℕ) (x : QueryLine) → acts < 160 → k < 512 → queryLineFits h acts k x ≡ true → Spelled queryLetters h acts k 66 x (queryLineText k x)
+  line-spelled : (acts k : ℕ) (x : QueryLine) → acts ≤ 160 → k < 512 → queryLineFits h acts k x ≡ true → Spelled queryLetters h acts k 66 x (queryLineText k x)
   line-spelled acts k x m l e = spelled-line h acts k small-parties small-marks (omega arith) (omega arith) x e
 
   read-actions : (xs pre : List ActionLine) (n : ℕ) (rest : List ℕ) (R : Result Query Fault) → eachFits (actionFits h) (length pre) xs ≡ true →
-      length pre + length xs < 160 → ((n : ℕ) → linesRead h n (made (pre ++ xs) []) (linesOf rest) ≡ R) →
+      length pre + length xs ≤ 160 → ((n : ℕ) → linesRead h n (made (pre ++ xs) []) (linesOf rest) ≡ R) →
       linesRead h n (made pre []) (linesOf (numberedText actionText (length pre) xs ++ rest)) ≡ R
   read-actions [] pre n rest R e l then = ap (λ v. linesRead h n (made v []) (linesOf rest)) (sym (append-nil pre)) ∙ then n
   read-actions (x ∷ xs) pre n rest R e l then =
@@ -103,8 +104,8 @@ module _ (h : Sheet) (small-parties : h .parties ≤ 6) (small-marks : h .marks 
       ∙ read-actions xs (pre ++ x ∷ []) (n + 1) rest R (ap (λ i. eachFits (actionFits h) i xs) push ∙ q .1) (omega arith)
       (λ m. ap (λ v. linesRead h m (made v []) (linesOf rest)) (append-assoc pre (x ∷ []) xs) ∙ then m)
 
-  read-lines : (acts : List ActionLine) (ls pre : List QueryLine) (n : ℕ) → length acts < 160 →
-      eachFits (queryLineFits h (length acts)) (length pre) ls ≡ true → length pre + length ls < 512 →
+  read-lines : (acts : List ActionLine) (ls pre : List QueryLine) (n : ℕ) → length acts ≤ 160 →
+      eachFits (queryLineFits h (length acts)) (length pre) ls ≡ true → length pre + length ls ≤ 512 →
       linesRead h n (made acts pre) (linesOf (numberedText queryLineText (length pre) ls)) ≡ Ok (made acts (pre ++ ls))
   unfolding linesRead
   read-lines acts [] pre n few e l = ap (λ v. Ok (made acts v)) (sym (append-nil pre))
@@ -136,7 +137,7 @@ module _ (h : Sheet) (small-parties : h .parties ≤ 6) (small-marks : h .marks 
         spelled-length actionLetters h k k 65 x (actionText k x) s (omega arith) (omega arith),
       )
 
-  query-line : (acts : ℕ) → acts < 160 → (k : ℕ) (x : QueryLine) → k < 512 → queryLineFits h acts k x ≡ true →
+  query-line : (acts : ℕ) → acts ≤ 160 → (k : ℕ) (x : QueryLine) → k < 512 → queryLineFits h acts k x ≡ true →
       (Ends (queryLineText k x)) × (length (queryLineText k x) ≤ 20)
   query-line acts few k x l e =
       let s = line-spelled acts k x few l e in (
@@ -144,16 +145,29 @@ module _ (h : Sheet) (small-parties : h .parties ≤ 6) (small-marks : h .marks 
         spelled-length queryLetters h acts k 66 x (queryLineText k x) s (omega arith) (omega arith),
       )
 
+  text-ends : (q : Query) → QueryFits h q → Ends (numberedText actionText 0 (q .actions) ++ numberedText queryLineText 0 (q .lines))
+  text-ends q fits = ⊎-elim
+      (λ l.
+      let x = texts-end (queryLineFits h acts) queryLineText 512 (query-line acts (fits .few-actions)) (q .lines) 0 (omega (arith, fits .few-lines)) l (fits .lines-fit) in
+      (numberedText actionText 0 (q .actions) ++ x .0, ap (λ v. numberedText actionText 0 (q .actions) ++ v) (x .1) ∙ sym (append-assoc _ (x .0) (10 ∷ []))))
+      (λ m.
+      let x = texts-end (actionFits h) actionText 160 action-line (q .actions) 0 (omega (arith, fits .few-actions)) (omega (arith, fits .some-line)) (fits .actions-fit) in
+      let none = nil-from-length (q .lines) (omega arith) in
+      (x .0, ap (λ ls. numberedText actionText 0 (q .actions) ++ numberedText queryLineText 0 ls) none ∙ append-nil _ ∙ x .1))
+      (cases-lt 0 (length (q .lines)))
+    where
+      acts : ℕ
+      acts = length (q .actions)
+
   pub query-reads-back : (q : Query) → QueryFits h q → queryRead h (queryText q) ≡ Ok q
   unfolding queryRead queryText
   query-reads-back q fits =
       let acts = length (q .actions) in
-      let as′ = numberedText actionText 0 (q .actions) in
-      let bs = numberedText queryLineText 0 (q .lines) in
+      let front = numberedText actionText 0 (q .actions) in
+      let back = numberedText queryLineText 0 (q .lines) in
       let few-actions = texts-length (actionFits h) actionText 160 action-line (q .actions) 0 (omega (arith, fits .few-actions)) (fits .actions-fit) in
       let few-lines = texts-length (queryLineFits h acts) queryLineText 512 (query-line acts (fits .few-actions)) (q .lines) 0 (omega (arith, fits .few-lines)) (fits .lines-fit) in
-      let end = texts-end (queryLineFits h acts) queryLineText 512 (query-line acts (fits .few-actions)) (q .lines) 0 (omega (arith, fits .few-lines)) (fits .some-lines) (fits .lines-fit) in
-      cond-false (ltb 16384 (length (as′ ++ bs))) _ _ (le-ltb _ _ (omega (arith, length-append as′ bs, few-actions, few-lines, fits .few-actions, fits .few-lines)))
-      ∙ cond-true (finished (as′ ++ bs)) _ _ (finished-ends (as′ ++ bs) (as′ ++ end .0, ap (λ v. as′ ++ v) (end .1) ∙ sym (append-assoc as′ (end .0) (10 ∷ []))))
-      ∙ read-actions (q .actions) [] 1 bs (Ok q) (fits .actions-fit) (omega (arith, fits .few-actions))
+      cond-false (ltb 16384 (length (front ++ back))) _ _ (le-ltb _ _ (omega (arith, length-append front back, few-actions, few-lines, fits .few-actions, fits .few-lines)))
+      ∙ cond-true (finished (front ++ back)) _ _ (finished-ends (front ++ back) (text-ends q fits))
+      ∙ read-actions (q .actions) [] 1 back (Ok q) (fits .actions-fit) (omega (arith, fits .few-actions))
       (λ n. read-lines (q .actions) (q .lines) [] n (fits .few-actions) (fits .lines-fit) (omega (arith, fits .few-lines)))

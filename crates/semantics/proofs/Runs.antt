@@ -21,8 +21,8 @@ use Rattle.semantics.specs.Reduction.{reduction, lastLine}
 use Rattle.semantics.specs.Resolving.{queryRounds}
 use Rattle.semantics.specs.Edits.{Edit, editChecks}
 use Rattle.semantics.specs.Books.{Amending, Book, beginRefusal, closeRefusal, editRefusal, begun, amended, kept, withdrawn, unless}
-use Rattle.semantics.specs.Calls.{Call, begin, edit, keep, withdraw, judge, translate, resolve, show, Limits, Answer, refused, ticket, done, count, judged, written, shown, showable, refusal, bookAfter, after}
-use Rattle.semantics.specs.Law.{Entry, Outcome, Showing, Resolved, Accepted, Settled, Gives, Throughout}
+use Rattle.semantics.specs.Calls.{Call, begin, edit, keep, withdraw, judge, translate, resolve, show, Limits, Answer, refused, ticket, done, edits, judged, written, shown, showable, refusal, bookAfter, after}
+use Rattle.semantics.specs.Law.{Entry, Outcome, Showing, Resolved, Accepted, Responds, Gives, Throughout}
 use Rattle.semantics.specs.RunLaws.{Sound, accepted, JudgedAs, OneAnswerTo, OneAnswer, Runs-agree, ShowsTo, Shows, Runs-show}
 use Rattle.semantics.specs.Turns.{inTurn}
 use Rattle.semantics.proofs.EditValid.{clear-from, edit-valid}
@@ -77,7 +77,7 @@ throughout-map P Q f (e ∷ es) (o ∷ os) r z s p =
 
 module _ (b : Book) (z : ℕ → Bool) (o : Outcome) where
   -- a call that is answered was not refused
-  settled-accepted : (x : Option ℕ) (c : Call) → Settled x b z c o → accepted (o .answer) ≡ true → Accepted b z c o
+  settled-accepted : (x : Option ℕ) (c : Call) → Responds x b z c o → accepted (o .answer) ≡ true → Accepted b z c o
   settled-accepted None c s on = s
   settled-accepted (Some r) c s on = absurd (false≢true (sym (ap accepted (s .0)) ∙ on))
 
@@ -100,7 +100,7 @@ module _ (b : Book) (z : ℕ → Bool) (o : Outcome) where
       (r .0 ∙ ap (λ w. judged w (queryRounds (b .sheet) q (lastLine q))) (agree .one-verdict) ∙ ap (judged (verdict (b .sheet) (lineSet (b .sheet) f))) (agree .one-rounds))
       (r .1 ∙ agree .one-set)
 
-  one-answer : (m : Limits) (c : Call) → Valid (b .sheet) → Settled (refusal m b c) b z c o → OneAnswerTo (b .sheet) c o
+  one-answer : (m : Limits) (c : Call) → Valid (b .sheet) → Responds (refusal m b c) b z c o → OneAnswerTo (b .sheet) c o
   one-answer m begin v s = tt
   one-answer m (edit t e) v s = tt
   one-answer m (keep t) v s = tt
@@ -140,7 +140,7 @@ showing-evidence : (h : Sheet) (f s : ℕ) (x : Answer) → Showing h f s x → 
 showing-evidence h f s (refused r) w d = absurd (w .1 d)
 showing-evidence h f s (ticket n) w d = absurd w
 showing-evidence h f s done w d = absurd w
-showing-evidence h f s (count n) w d = absurd w
+showing-evidence h f s (edits n) w d = absurd w
 showing-evidence h f s (judged v r) w d = absurd w
 showing-evidence h f s (written t) w d = absurd w
 showing-evidence h f s (shown e) w d = (e, refl, w)
@@ -156,7 +156,7 @@ show-fits m b f s lf ls lw lp lc d =
     ∙ cond-false (ltb (m .capacity) (b .sheet .states)) _ _ (le-ltb _ _ lc)
     ∙ cond-false (not (showable (lineAt (b .sheet) f))) _ _ (not-from-true _ (due-line (b .sheet) f s lf d))
 
-shows-to : (b : Book) (z : ℕ → Bool) (o : Outcome) (m : Limits) (c : Call) → Valid (b .sheet) → Settled (refusal m b c) b z c o → ShowsTo (b .sheet) m c o
+shows-to : (b : Book) (z : ℕ → Bool) (o : Outcome) (m : Limits) (c : Call) → Valid (b .sheet) → Responds (refusal m b c) b z c o → ShowsTo (b .sheet) m c o
 shows-to b z o m begin v g = tt
 shows-to b z o m (edit t e) v g = tt
 shows-to b z o m (keep t) v g = tt
@@ -168,7 +168,7 @@ shows-to b z o m (show f s) v g = λ lf ls lw lp lc. (
   λ x. (x .0, x .2),
   λ x.
       let d = evidence-where-due (b .sheet) v (treeAt (b .sheet) f) s ls .0 x in
-      let a = subst (λ y. Settled y b z (show f s) o) (show-fits m b f s lf ls lw lp lc d) g in
+      let a = subst (λ y. Responds y b z (show f s) o) (show-fits m b f s lf ls lw lp lc d) g in
       showing-evidence (b .sheet) f s (o .answer) (a .0) d,
 )
 

@@ -47,9 +47,9 @@ abbrev pub amended : Book → Edit → Book
 amended b e = record { sheet = edited (b .sheet) e; amending = counted (b .amending) }
 
 -- the count of accepted edits
-abbrev pub countOf : Option Amending → ℕ
-countOf None = 0
-countOf (Some a) = a .count
+abbrev pub editCount : Option Amending → ℕ
+editCount None = 0
+editCount (Some a) = a .count
 
 -- the amendment is closed, and its edits stay
 abbrev pub kept : Book → Book

@@ -39,7 +39,7 @@ pub data Answer : Type 0 where
   refused : ℕ → Answer
   ticket : ℕ → Answer
   done : Answer
-  count : ℕ → Answer
+  edits : ℕ → Answer
   judged : ℕ → ℕ → Answer
   written : List ℕ → Answer
   shown : Shown → Answer

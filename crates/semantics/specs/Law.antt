@@ -7,8 +7,8 @@ use Rattle.std.specs.declared.option.Option.{Option}
 use Rattle.std.specs.declared.option.Option.the-variants.{Some, None}
 use Rattle.std.specs.declared.result.Result.{Result}
 use Rattle.std.specs.declared.result.Result.the-variants.{Ok, Err}
-use Rattle.semantics.specs.Books.{Book, countOf}
-use Rattle.semantics.specs.Calls.{Call, begin, edit, keep, withdraw, judge, translate, resolve, show, Limits, Answer, refused, ticket, done, count, judged, written, shown, refusal, blankRefusal, after}
+use Rattle.semantics.specs.Books.{Book, editCount}
+use Rattle.semantics.specs.Calls.{Call, begin, edit, keep, withdraw, judge, translate, resolve, show, Limits, Answer, refused, ticket, done, edits, judged, written, shown, refusal, blankRefusal, after}
 use Rattle.semantics.specs.Evidence.{Evidence, Due}
 use Rattle.semantics.specs.Faults.{Fault}
 use Rattle.semantics.specs.Formulas.{treeAt}
@@ -50,7 +50,7 @@ abbrev pub Showing : Sheet → ℕ → ℕ → Answer → Type 0
 Showing h f s (refused r) = (r ≡ withoutEvidence (lineAt h f)) × (Due h (treeAt h f) s → ⊥)
 Showing h f s (ticket n) = ⊥
 Showing h f s done = ⊥
-Showing h f s (count n) = ⊥
+Showing h f s (edits n) = ⊥
 Showing h f s (judged v r) = ⊥
 Showing h f s (written t) = ⊥
 Showing h f s (shown e) = Evidence h (treeAt h f) s e
@@ -64,22 +64,22 @@ Resolved h k (Err f) o = ⊥
 abbrev pub Accepted : Book → (ℕ → Bool) → Call → Outcome → Type 0
 Accepted b z begin o = Answers o (ticket (b .sheet .number)) z
 Accepted b z (edit t e) o = Answers o done z
-Accepted b z (keep t) o = Answers o (count (countOf (b .amending))) z
-Accepted b z (withdraw t) o = Answers o (count (countOf (b .amending))) z
+Accepted b z (keep t) o = Answers o (edits (editCount (b .amending))) z
+Accepted b z (withdraw t) o = Answers o (edits (editCount (b .amending))) z
 Accepted b z (judge f) o = Answers o (judged (verdict (b .sheet) (lineSet (b .sheet) f)) (lineRounds (b .sheet) f)) (lineSet (b .sheet) f)
 Accepted b z (translate f) o = Answers o (written (queryText (reduction (b .sheet .lines) f))) z
 Accepted b z (resolve t k) o = Resolved (b .sheet) k (queryRead (b .sheet) t) o
 Accepted b z (show f s) o = Showing (b .sheet) f s (o .answer) × (o .set ≡ lineSet (b .sheet) f)
 
 -- refused with the number of the table, or accepted
-abbrev pub Settled : Option ℕ → Book → (ℕ → Bool) → Call → Outcome → Type 0
-Settled (Some r) b z c o = Answers o (refused r) z
-Settled None b z c o = Accepted b z c o
+abbrev pub Responds : Option ℕ → Book → (ℕ → Bool) → Call → Outcome → Type 0
+Responds (Some r) b z c o = Answers o (refused r) z
+Responds None b z c o = Accepted b z c o
 
 -- what a call may answer in a reference state, where the lent set held z
 abbrev pub Gives : Option Book → (ℕ → Bool) → Entry → Outcome → Type 0
 Gives None z e o = Answers o (refused (blankRefusal (e .call))) z
-Gives (Some b) z e o = Settled (refusal (e .limits) b (e .call)) b z (e .call) o
+Gives (Some b) z e o = Responds (refusal (e .limits) b (e .call)) b z (e .call) o
 
 -- one outcome for each entry, and P of each, as the reference state and the set then stand
 abbrev pub Throughout : (Option Book → (ℕ → Bool) → Entry → Outcome → Type 0) → Option Book → (ℕ → Bool) → List Entry → List Outcome → Type 0

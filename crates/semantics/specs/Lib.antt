@@ -29,4 +29,5 @@ pub mod Books
 pub mod Calls
 pub mod Law
 pub mod RunLaws
+pub mod Determined
 pub mod Worked

@@ -2,7 +2,7 @@
 use mathlib.Core.Path.{_≡_}
 use mathlib.Core.Bool.{Bool, true, _&&_}
 use mathlib.Core.List.{List, [], _∷_}
-use Prim.Native.Nat.{ℕ, _+_, _<_}
+use Prim.Native.Nat.{ℕ, _+_, _<_, _≤_}
 use lib.Dec.{ltb}
 use lib.ListN.{length}
 use Rattle.std.specs.declared.result.Result.the-variants.{Ok}
@@ -35,13 +35,17 @@ abbrev pub eachFits : {X : Type 0} → (ℕ → X → Bool) → ℕ → List X �
 eachFits p k [] = true
 eachFits p k (x ∷ xs) = p k x && eachFits p (k + 1) xs
 
--- a query that has a text: at least one A line and one B line, no more than the limits, and all lines fit
+-- a query that can be read: some line, no more lines than the limits, and all lines fit the sheet
 pub record QueryFits (h : Sheet) (q : Query) : Type 0 where
-  pub some-lines : 0 < length (q .lines)
-  pub few-actions : length (q .actions) < 160
-  pub few-lines : length (q .lines) < 512
+  pub some-line : 0 < length (q .actions) + length (q .lines)
+  pub few-actions : length (q .actions) ≤ 160
+  pub few-lines : length (q .lines) ≤ 512
   pub actions-fit : eachFits (actionFits h) 0 (q .actions) ≡ true
   pub lines-fit : eachFits (queryLineFits h (length (q .actions))) 0 (q .lines) ≡ true
+
+-- a query that fits a sheet reads back from its text
+abbrev pub Queries-read-back : Type 0
+Queries-read-back = (h : Sheet) → Valid h → (q : Query) → QueryFits h q → queryRead h (queryText q) ≡ Ok q
 
 -- the text of a reduction reads back as the reduction
 abbrev pub Reductions-read-back : Type 0

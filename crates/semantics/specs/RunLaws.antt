@@ -8,7 +8,7 @@ use lib.ListN.{length, take}
 use Rattle.std.specs.declared.option.Option.{Option}
 use Rattle.std.specs.declared.option.Option.the-variants.{Some, None}
 use Rattle.semantics.specs.Books.{Amending, Book}
-use Rattle.semantics.specs.Calls.{Call, begin, edit, keep, withdraw, judge, translate, resolve, show, Limits, Answer, refused, ticket, done, count, judged, written, shown, bookAfter}
+use Rattle.semantics.specs.Calls.{Call, begin, edit, keep, withdraw, judge, translate, resolve, show, Limits, Answer, refused, ticket, done, edits, judged, written, shown, bookAfter}
 use Rattle.semantics.specs.Edits.{Edit, made}
 use Rattle.semantics.specs.Evidence.{Shown, Evidence}
 use Rattle.semantics.specs.Formulas.{Holds, treeAt}
@@ -34,7 +34,7 @@ abbrev pub accepted : Answer → Bool
 accepted (refused r) = false
 accepted (ticket n) = true
 accepted done = true
-accepted (count n) = true
+accepted (edits n) = true
 accepted (judged v r) = true
 accepted (written t) = true
 accepted (shown e) = true

@@ -11,7 +11,7 @@ use Rattle.std.specs.Joined.{joined}
 use Rattle.std.specs.declared.option.Option.the-variants.{Some, None}
 use Rattle.semantics.specs.Access.{access}
 use Rattle.semantics.specs.Books.{Book}
-use Rattle.semantics.specs.Calls.{Call, begin, edit, withdraw, judge, translate, resolve, show, Answer, refused, ticket, done, count, judged, written, shown}
+use Rattle.semantics.specs.Calls.{Call, begin, edit, withdraw, judge, translate, resolve, show, Answer, refused, ticket, done, edits, judged, written, shown}
 use Rattle.semantics.specs.Edits.{joinMove, cutMove}
 use Rattle.semantics.specs.Evidence.{alone}
 use Rattle.semantics.specs.Judging.{lineSet, lineRounds, verdict}
@@ -119,7 +119,7 @@ answers7 =
     ∷ gets done []
     ∷ gets done []
     ∷ gets (judged 0 0) []
-    ∷ gets (count 2) []
+    ∷ gets (edits 2) []
     ∷ gets (judged 1 0) (0 ∷ 1 ∷ [])
     ∷ gets (written query3) (0 ∷ 1 ∷ [])
     ∷ gets (judged 0 1) (1 ∷ 2 ∷ [])
@@ -132,6 +132,7 @@ answers7 =
 pub record Worked : Type 0 where
   pub valid : Valid sheet7
   pub text : sheetText sheet7 ≡ text7
+  pub reads : (g : Sheet) → Valid g → sheetText g ≡ text7 → g ≡ sheet7
   pub accessible : map (λ s. listBelow 3 (access sheet7 0 1 s)) (0 ∷ 1 ∷ 2 ∷ []) ≡ (0 ∷ []) ∷ (2 ∷ []) ∷ (2 ∷ []) ∷ []
   pub sets : map (λ f. listBelow 3 (lineSet sheet7 f)) (0 ∷ 1 ∷ 2 ∷ 3 ∷ 4 ∷ 5 ∷ []) ≡ (2 ∷ []) ∷ (1 ∷ 2 ∷ []) ∷ (2 ∷ []) ∷ (1 ∷ 2 ∷ []) ∷ (0 ∷ 1 ∷ []) ∷ [] ∷ []
   pub rounds : map (lineRounds sheet7) (0 ∷ 1 ∷ 2 ∷ 3 ∷ 4 ∷ 5 ∷ []) ≡ 0 ∷ 0 ∷ 0 ∷ 1 ∷ 0 ∷ 2 ∷ []

@@ -5,8 +5,9 @@ ghost use Rattle.semantics.specs.AccessLaws.{Access-transitive, Access-Euclide
 ghost use Rattle.semantics.specs.Resolving.{Query-sets-are-truth};
 ghost use Rattle.semantics.specs.Roads.{Two-roads};
 ghost use Rattle.semantics.specs.Evidence.{Evidence-where-due};
-ghost use Rattle.semantics.specs.ReadBack.{Reductions-read-back};
+ghost use Rattle.semantics.specs.ReadBack.{Queries-read-back, Reductions-read-back};
 ghost use Rattle.semantics.specs.RunLaws.{Runs-agree, Runs-show, Runs-account};
+ghost use Rattle.semantics.specs.Determined.{Texts-determine};
 ghost use Rattle.semantics.specs.Worked.{Worked};
 
 pub fn until_settles_stands() -> u8
@@ -81,6 +82,12 @@ pub fn evidence_where_due_stands() -> u8
     0
 }
 
+pub fn queries_read_back_stands() -> u8
+    ensures { λ _. ⌜ Queries-read-back ⌝ }
+{
+    0
+}
+
 pub fn reductions_read_back_stands() -> u8
     ensures { λ _. ⌜ Reductions-read-back ⌝ }
 {
@@ -101,6 +108,12 @@ pub fn runs_show_stands() -> u8
 
 pub fn runs_account_stands() -> u8
     ensures { λ _. ⌜ Runs-account ⌝ }
+{
+    0
+}
+
+pub fn texts_determine_stands() -> u8
+    ensures { λ _. ⌜ Texts-determine ⌝ }
 {
     0
 }
