@@ -35,3 +35,6 @@ pub mod SheetClean
 pub mod Sections
 pub mod LinesDetermined
 pub mod Determined
+pub mod Uncutting
+pub mod Inversion
+pub mod OnlyQueries

@@ -16,11 +16,11 @@ use Rattle.semantics.proofs.Decimals.{Lacks, lacks-append, decimal-lacks}
 abbrev pub Row : Type 0
 Row = List (List ℕ)
 
-abbrev tailText : Row → List ℕ
+abbrev pub tailText : Row → List ℕ
 tailText [] = []
 tailText (f ∷ fs) = (44 ∷ f) ++ tailText fs
 
-abbrev rowBody : Row → List ℕ
+abbrev pub rowBody : Row → List ℕ
 rowBody [] = []
 rowBody (f ∷ fs) = f ++ tailText fs
 
@@ -69,11 +69,11 @@ tail-is (n ∷ ns) = ap (λ v. (44 ∷ decimal n) ++ v) (tail-is ns)
 pub plain-text : (l : ℕ) (ns : List ℕ) → lineText l ns ≡ rowText (plain l ns)
 plain-text l ns = ap (λ v. l ∷ (v ++ 10 ∷ [])) (tail-is ns)
 
-pub lettered-text : (k l : ℕ) (ns : List ℕ) → letteredText 70 k l ns ≡ rowText (lettered k l ns)
-lettered-text k l ns =
-    ap (λ v. 70 ∷ (v ++ (44 ∷ l ∷ (fieldsText ns ++ 10 ∷ [])))) (append-nil (44 ∷ decimal k))
-    ∙ ap (λ v. 70 ∷ ((44 ∷ decimal k) ++ (44 ∷ l ∷ (v ++ 10 ∷ [])))) (tail-is ns)
-    ∙ ap (λ v. 70 ∷ v) (sym (append-assoc (44 ∷ decimal k) (44 ∷ l ∷ tailText (map decimal ns)) (10 ∷ [])))
+pub row-lettered : (kind k l : ℕ) (ns : List ℕ) → letteredText kind k l ns ≡ rowText ((kind ∷ []) ∷ decimal k ∷ (l ∷ []) ∷ map decimal ns)
+row-lettered kind k l ns =
+    ap (λ v. kind ∷ (v ++ (44 ∷ l ∷ (fieldsText ns ++ 10 ∷ [])))) (append-nil (44 ∷ decimal k))
+    ∙ ap (λ v. kind ∷ ((44 ∷ decimal k) ++ (44 ∷ l ∷ (v ++ 10 ∷ [])))) (tail-is ns)
+    ∙ ap (λ v. kind ∷ v) (sym (append-assoc (44 ∷ decimal k) (44 ∷ l ∷ tailText (map decimal ns)) (10 ∷ [])))
 
 -- numbers that a field can hold
 abbrev pub Fit : List ℕ → Type 0

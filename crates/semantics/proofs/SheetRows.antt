@@ -10,7 +10,7 @@ use Rattle.std.specs.shelf.Lists.{All}
 use Rattle.semantics.specs.Sheets.{Sheet, Line, mark, negation, disjunction, next, globally, until, commitment, fulfilment}
 use Rattle.semantics.specs.SheetText.{holdersText, statesText, localText, localsText, movesText, formulaText, sheetText}
 use Rattle.semantics.specs.Written.{fieldsText, lineText, textsBelow, numberedText}
-use Rattle.semantics.proofs.Rows.{Row, rowText, plain, lettered, plain-text, lettered-text}
+use Rattle.semantics.proofs.Rows.{Row, rowText, plain, lettered, plain-text, row-lettered}
 
 -- the items of the numbers below n, one after another
 unfoldable pub itemsBelow : {X : Type 0} → ℕ → (ℕ → List X) → List X
@@ -130,14 +130,14 @@ local-text h s p =
     ∙ one-text 76 (localNumbers h s p)
 
 formula-text : (k : ℕ) (l : Line) → formulaText k l ≡ rowText (lettered k (letterOf l) (numbersOf l))
-formula-text k (mark m) = lettered-text k 77 (m ∷ [])
-formula-text k (negation a) = lettered-text k 78 (a ∷ [])
-formula-text k (disjunction a b) = lettered-text k 79 (a ∷ b ∷ [])
-formula-text k (next a) = lettered-text k 88 (a ∷ [])
-formula-text k (globally a) = lettered-text k 71 (a ∷ [])
-formula-text k (until a b) = lettered-text k 85 (a ∷ b ∷ [])
-formula-text k (commitment i j a) = lettered-text k 67 (i ∷ j ∷ a ∷ [])
-formula-text k (fulfilment i j a) = lettered-text k 75 (i ∷ j ∷ a ∷ [])
+formula-text k (mark m) = row-lettered 70 k 77 (m ∷ [])
+formula-text k (negation a) = row-lettered 70 k 78 (a ∷ [])
+formula-text k (disjunction a b) = row-lettered 70 k 79 (a ∷ b ∷ [])
+formula-text k (next a) = row-lettered 70 k 88 (a ∷ [])
+formula-text k (globally a) = row-lettered 70 k 71 (a ∷ [])
+formula-text k (until a b) = row-lettered 70 k 85 (a ∷ b ∷ [])
+formula-text k (commitment i j a) = row-lettered 70 k 67 (i ∷ j ∷ a ∷ [])
+formula-text k (fulfilment i j a) = row-lettered 70 k 75 (i ∷ j ∷ a ∷ [])
 
 formulas-text : (ls : List Line) (k : ℕ) → numberedText formulaText k ls ≡ joined rowText (formulaRows k ls)
 formulas-text [] k = refl
