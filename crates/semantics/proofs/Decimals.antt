@@ -1,5 +1,5 @@
 -- Numbers are read back from their decimal digits.
-use mathlib.Core.Path.{_≡_, refl, ap, _∙_}
+use mathlib.Core.Path.{_≡_, refl, sym, ap, _∙_}
 use mathlib.Core.Bool.{Bool, true, _&&_}
 use mathlib.Core.List.{List, [], _∷_, _++_}
 use mathlib.Core.Logic.{⊎-elim}
@@ -8,11 +8,11 @@ use native.Mathlib.Omega.{arith}
 use borrow.Author.Needs.{needs}
 use lib.Dec.{leb}
 use lib.ListN.{length, getD}
-use Rattle.std.specs.declared.option.Option.the-variants.{Some}
+use Rattle.std.specs.declared.option.Option.the-variants.{Some, None}
 use Rattle.std.specs.Written.{decimal}
-use Rattle.std.proofs.shelf.Tests.{cond-true, and-parts, leb-true, cases-lt}
-use Rattle.std.proofs.shelf.Numerals.{Numerals, numerals-by-fold}
-use Rattle.std.proofs.shelf.Decimals.{digits-decimal, value-decimal, length-decimal-le, decimal-some, first-decimal, decimal-digit}
+use Rattle.std.proofs.shelf.Tests.{cond-true, cond-false, and-parts, and-from, leb-true, cases-lt, cases-bool}
+use Rattle.std.proofs.shelf.Numerals.{Numerals, numerals-by-fold, value-short}
+use Rattle.std.proofs.shelf.Decimals.{decimal-value, digits-decimal, value-decimal, length-decimal-le, decimal-some, first-decimal, decimal-digit}
 use Rattle.std.proofs.shelf.Ways.{tells}
 use Rattle.semantics.specs.Numbers.{digit, digitsFrom, shaped, numberOf}
 
@@ -66,3 +66,25 @@ digits-lack b l (c ∷ cs) h =
 
 pub decimal-lacks : (b : ℕ) → b < 48 → (n : ℕ) → n < 100000 → Lacks b (decimal n)
 decimal-lacks b l n h = digits-lack b l (decimal n) (digits-decimal own n (omega arith))
+
+digits-ok : (cs : List ℕ) (n m : ℕ) → digitsFrom n cs ≡ Some m → (allDigit cs ≡ true) × (readOn n cs ≡ m)
+digits-ok [] n m h = (refl, cc)
+digits-ok (c ∷ cs) n m h = ⊎-elim
+    (λ d. let p = digits-ok cs _ m (sym (cond-true _ _ _ d) ∙ h) in (and-from _ _ d (p .0), p .1))
+    (λ d. let e : None ≡ Some m = sym (cond-false _ _ _ d) ∙ h in let z : _≡_ {A = ℕ} 0 1 = cc in absurd (omega arith))
+    (cases-bool (digit c))
+
+shaped-parts : (bs : List ℕ) → shaped bs ≡ true → (0 < length bs) × (length bs ≤ 5) × (getD bs 0 0 ≡ 48 → length bs ≡ 1)
+shaped-parts bs h = grind (arith, tells)
+
+-- nothing but decimal digits is read as a number
+pub only-decimal : (bs : List ℕ) (n : ℕ) → numberOf bs ≡ Some n → (bs ≡ decimal n) × (n < 100000)
+only-decimal bs n h = ⊎-elim
+    (λ s.
+    let p = shaped-parts bs s in
+    let d = digits-ok bs 0 n (sym (cond-true _ _ _ s) ∙ h) in
+    let b : readOn 0 bs < 100000 = value-short own bs 5 (d .0) (p .1) in
+    let e = decimal-value own bs (d .0) (p .0) (p .2) (omega arith) in
+    (sym e ∙ ap decimal (d .1), omega (arith, d .1)))
+    (λ s. let e : None ≡ Some n = sym (cond-false _ _ _ s) ∙ h in let z : _≡_ {A = ℕ} 0 1 = cc in absurd (omega arith))
+    (cases-bool (shaped bs))

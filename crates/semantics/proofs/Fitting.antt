@@ -20,7 +20,7 @@ use Rattle.semantics.proofs.ReadBack.{query-reads-back}
 use Rattle.semantics.proofs.ReducedLines.{is-pair}
 use Rattle.semantics.proofs.Sizes.{limits}
 
-each-append : {X : Type 0} (p : ℕ → X → Bool) (xs ys : List X) (k : ℕ) → eachFits p k xs ≡ true → eachFits p (k + length xs) ys ≡ true → eachFits p k (xs ++ ys) ≡ true
+pub each-append : {X : Type 0} (p : ℕ → X → Bool) (xs ys : List X) (k : ℕ) → eachFits p k xs ≡ true → eachFits p (k + length xs) ys ≡ true → eachFits p k (xs ++ ys) ≡ true
 each-append p [] ys k e f = ap (λ i. eachFits p i ys) (sym (add-zero k)) ∙ f
 each-append p (x ∷ xs) ys k e f =
     let q = and-parts (p k x) (eachFits p (k + 1) xs) e in

@@ -16,7 +16,8 @@ pub mod Walks
 pub mod Lassos
 pub mod Evidence
 pub mod Decimals
-pub mod Cutting
+pub mod Rows
+pub mod TextLengths
 pub mod LinesRead
 pub mod Spelling
 pub mod Sizes
@@ -29,9 +30,12 @@ pub mod Accounts
 pub mod WorkedValid
 pub mod WorkedRun
 pub mod Worked
-pub mod Rows
 pub mod SheetRows
 pub mod SheetClean
 pub mod Sections
 pub mod LinesDetermined
 pub mod Determined
+pub mod Uncutting
+pub mod Inversion
+pub mod SpelledBack
+pub mod OnlyQueries

@@ -40,7 +40,7 @@ module _ (g h : Sheet) (v : Valid g) (w : Valid h) where
   lines-same (l ∷ ls) (m ∷ ms) k a b p q e =
       let f = and-parts (lineFits g k l) (linesFit g (k + 1) ls) p in
       let d = and-parts (lineFits h k m) (linesFit h (k + 1) ms) q in
-      let row : lettered k (letterOf l) (numbersOf l) ≡ lettered k (letterOf m) (numbersOf m) = ap (λ rs. getD rs 0 []) e in
+      let row : lettered 70 k (letterOf l) (numbersOf l) ≡ lettered 70 k (letterOf m) (numbersOf m) = ap (λ rs. getD rs 0 []) e in
       let one : letterOf l ≡ letterOf m = ap (λ r. getD (getD r 2 []) 0 0) row in
       let all : numbersOf l ≡ numbersOf m =
       same-numbers (numbersOf l) (numbersOf m) (line-fit g v l k (omega arith) (f .0)) (line-fit h w m k (omega arith) (d .0)) (ap (drop 3) row) in

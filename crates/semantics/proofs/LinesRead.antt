@@ -14,7 +14,7 @@ use Rattle.semantics.specs.Faults.{refusedAt, andThen}
 use Rattle.semantics.specs.QueryReading.{Kind, Letter, letterIn, numberAt, inRange, numbersAt, isEarlier, earlierAt, countedLine, letteredLine}
 use Rattle.semantics.specs.Sheets.{Sheet}
 use Rattle.semantics.specs.Written.{letteredText}
-use Rattle.semantics.proofs.Cutting.{Small}
+use Rattle.semantics.proofs.TextLengths.{Small}
 use Rattle.semantics.proofs.Decimals.{reads-decimal}
 
 module _ (h : Sheet) (acts due : ℕ) where

@@ -2,14 +2,13 @@
 use mathlib.Core.Path.{_≡_, sym, ap, _∙_}
 use mathlib.Core.Logic.{⊎-elim}
 use mathlib.Core.Bool.{Bool, true}
-use mathlib.Core.List.{List, [], _∷_, _++_, map, append-assoc, append-nil}
+use mathlib.Core.List.{List, [], _∷_, _++_, append-assoc, append-nil}
 use Prim.Native.Nat.{ℕ, _+_, _-_, _*_, _<_, _≤_}
 use native.Mathlib.Omega.{arith}
 use lib.Dec.{ltb}
 use lib.ListN.{length, length-append}
 use Rattle.std.specs.declared.result.Result.{Result}
 use Rattle.std.specs.declared.result.Result.the-variants.{Ok}
-use Rattle.std.specs.Written.{decimal}
 use Rattle.std.proofs.shelf.Lists.{getD-push, length-push, nil-from-length}
 use Rattle.std.proofs.shelf.Tests.{cond-true, cond-false, and-parts, and-from, eq-eqb, le-ltb, lt-ltb, cases-lt}
 use Rattle.semantics.specs.Actions.{ActionLine}
@@ -21,7 +20,8 @@ use Rattle.semantics.specs.QueryText.{actionText, queryLineText, queryText}
 use Rattle.semantics.specs.ReadBack.{actionFits, queryLineFits, eachFits, QueryFits}
 use Rattle.semantics.specs.Sheets.{Sheet}
 use Rattle.semantics.specs.Written.{numberedText}
-use Rattle.semantics.proofs.Cutting.{Small, lettered-ends, lettered-length, cut-line, cut-fields}
+use Rattle.semantics.proofs.Rows.{Row, rowBody, rowText, lettered, row-lettered, lettered-clean, Clean, row-line, row-fields}
+use Rattle.semantics.proofs.TextLengths.{Small, small-fit, lettered-length}
 use Rattle.semantics.proofs.LinesRead.{sound-small, line-read, Spelled}
 use Rattle.semantics.proofs.Spelling.{spelled-action, spelled-line}
 
@@ -37,25 +37,30 @@ module _ {X : Type 0} (table : List (Letter X)) (h : Sheet) (acts due kind : ℕ
   small : Small (s .numbers)
   small = sound-small h acts due (s .spelling .kinds) (s .numbers) (s .sound)
 
-  abbrev spelled-fields : List (List ℕ)
-  spelled-fields = (kind ∷ []) ∷ decimal due ∷ (s .spelling .byte ∷ []) ∷ map decimal (s .numbers)
+  abbrev spelled-fields : Row
+  spelled-fields = lettered kind due (s .spelling .byte) (s .numbers)
+
+  text-is : text ≡ rowText spelled-fields
+  text-is = s .written ∙ row-lettered kind due (s .spelling .byte) (s .numbers)
+
+  clean : Clean spelled-fields
+  clean = lettered-clean kind due (s .spelling .byte) (s .numbers) capital (s .plain) (omega arith) (small-fit (s .numbers) small)
 
   -- a spelled line is cut off and into its fields
   spelled-cut : (n : ℕ) (q : Query) (rest : List ℕ) →
       linesRead h n q (linesOf (text ++ rest)) ≡ andThen (lineRead h n q spelled-fields) (λ p. linesRead h (n + 1) p (linesOf rest))
   unfolding linesRead
   spelled-cut n q rest =
-      ap (λ v. linesRead h n q (linesOf (v ++ rest))) (s .written)
-      ∙ ap (linesRead h n q) (cut-line kind due (s .spelling .byte) (s .numbers) few small (λ e. omega arith) (λ e. omega (arith, s .plain)) rest)
-      ∙ ap (λ fs. andThen (lineRead h n q fs) (λ p. linesRead h (n + 1) p (linesOf rest)))
-      (cut-fields kind due (s .spelling .byte) (s .numbers) few small (λ e. omega arith) (λ e. omega (arith, s .plain)))
+      ap (λ v. linesRead h n q (linesOf (v ++ rest))) text-is
+      ∙ ap (linesRead h n q) (row-line spelled-fields clean rest)
+      ∙ ap (λ fs. andThen (lineRead h n q fs) (λ p. linesRead h (n + 1) p (linesOf rest))) (row-fields spelled-fields clean)
 
   spelled-read : (n most : ℕ) → due < most → letteredLine table most h acts due n spelled-fields ≡ Ok x
   spelled-read n most l =
       line-read h acts due n table most kind (s .spelling) (s .numbers) (s .found) (s .sound) l few ∙ ap (λ y. Ok y) (s .made)
 
   spelled-ends : Ends text
-  spelled-ends = let e = lettered-ends kind due (s .spelling .byte) (s .numbers) few small in (e .0, s .written ∙ e .1)
+  spelled-ends = (rowBody spelled-fields, text-is)
 
   spelled-length : length text ≤ 20
   spelled-length =

@@ -84,7 +84,7 @@ module _ (h : Sheet) (v : Valid h) where
   formulas-clean [] k l e = tt
   formulas-clean (x ∷ ls) k l e =
       let p = and-parts (lineFits h k x) (linesFit h (k + 1) ls) e in
-      (lettered-clean k (letterOf x) (numbersOf x) (capital x) (omega arith) (line-fit x k (omega arith) (p .0)), formulas-clean ls (k + 1) (omega arith) (p .1))
+      (lettered-clean 70 k (letterOf x) (numbersOf x) (omega arith) (capital x) (omega arith) (line-fit x k (omega arith) (p .0)), formulas-clean ls (k + 1) (omega arith) (p .1))
 
   pub rows-clean : All Clean (rowsOf h)
   rows-clean = (

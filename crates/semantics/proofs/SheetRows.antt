@@ -10,7 +10,7 @@ use Rattle.std.specs.shelf.Lists.{All}
 use Rattle.semantics.specs.Sheets.{Sheet, Line, mark, negation, disjunction, next, globally, until, commitment, fulfilment}
 use Rattle.semantics.specs.SheetText.{holdersText, statesText, localText, localsText, movesText, formulaText, sheetText}
 use Rattle.semantics.specs.Written.{fieldsText, lineText, textsBelow, numberedText}
-use Rattle.semantics.proofs.Rows.{Row, rowText, plain, lettered, plain-text, lettered-text}
+use Rattle.semantics.proofs.Rows.{Row, rowText, plain, lettered, plain-text, row-lettered}
 
 -- the items of the numbers below n, one after another
 unfoldable pub itemsBelow : {X : Type 0} → ℕ → (ℕ → List X) → List X
@@ -53,7 +53,7 @@ numbersOf (fulfilment i j a) = i ∷ j ∷ a ∷ []
 
 abbrev pub formulaRows : ℕ → List Line → List Row
 formulaRows k [] = []
-formulaRows k (l ∷ ls) = lettered k (letterOf l) (numbersOf l) ∷ formulaRows (k + 1) ls
+formulaRows k (l ∷ ls) = lettered 70 k (letterOf l) (numbersOf l) ∷ formulaRows (k + 1) ls
 
 abbrev pub headerNumbers : Sheet → List ℕ
 headerNumbers h = h .number ∷ h .parties ∷ h .channels ∷ h .states ∷ h .marks ∷ []
@@ -129,20 +129,20 @@ local-text h s p =
     ∙ ap (λ v. 76 ∷ (v ++ 10 ∷ [])) (sym (fields-append (s ∷ p ∷ h .position s p ∷ []) (copiesOf h s p)))
     ∙ one-text 76 (localNumbers h s p)
 
-formula-text : (k : ℕ) (l : Line) → formulaText k l ≡ rowText (lettered k (letterOf l) (numbersOf l))
-formula-text k (mark m) = lettered-text k 77 (m ∷ [])
-formula-text k (negation a) = lettered-text k 78 (a ∷ [])
-formula-text k (disjunction a b) = lettered-text k 79 (a ∷ b ∷ [])
-formula-text k (next a) = lettered-text k 88 (a ∷ [])
-formula-text k (globally a) = lettered-text k 71 (a ∷ [])
-formula-text k (until a b) = lettered-text k 85 (a ∷ b ∷ [])
-formula-text k (commitment i j a) = lettered-text k 67 (i ∷ j ∷ a ∷ [])
-formula-text k (fulfilment i j a) = lettered-text k 75 (i ∷ j ∷ a ∷ [])
+formula-text : (k : ℕ) (l : Line) → formulaText k l ≡ rowText (lettered 70 k (letterOf l) (numbersOf l))
+formula-text k (mark m) = row-lettered 70 k 77 (m ∷ [])
+formula-text k (negation a) = row-lettered 70 k 78 (a ∷ [])
+formula-text k (disjunction a b) = row-lettered 70 k 79 (a ∷ b ∷ [])
+formula-text k (next a) = row-lettered 70 k 88 (a ∷ [])
+formula-text k (globally a) = row-lettered 70 k 71 (a ∷ [])
+formula-text k (until a b) = row-lettered 70 k 85 (a ∷ b ∷ [])
+formula-text k (commitment i j a) = row-lettered 70 k 67 (i ∷ j ∷ a ∷ [])
+formula-text k (fulfilment i j a) = row-lettered 70 k 75 (i ∷ j ∷ a ∷ [])
 
 formulas-text : (ls : List Line) (k : ℕ) → numberedText formulaText k ls ≡ joined rowText (formulaRows k ls)
 formulas-text [] k = refl
 formulas-text (l ∷ ls) k =
-    ap (λ v. v ++ numberedText formulaText (k + 1) ls) (formula-text k l) ∙ ap (λ v. rowText (lettered k (letterOf l) (numbersOf l)) ++ v) (formulas-text ls (k + 1))
+    ap (λ v. v ++ numberedText formulaText (k + 1) ls) (formula-text k l) ∙ ap (λ v. rowText (lettered 70 k (letterOf l) (numbersOf l)) ++ v) (formulas-text ls (k + 1))
 
 two : (s t : List ℕ) (xs ys : List Row) → s ≡ joined rowText xs → t ≡ joined rowText ys → s ++ t ≡ joined rowText (xs ++ ys)
 two s t xs ys p q = ap (λ v. v ++ t) p ∙ ap (λ v. joined rowText xs ++ v) q ∙ sym (joined-append xs ys)

@@ -47,6 +47,10 @@ pub record QueryFits (h : Sheet) (q : Query) : Type 0 where
 abbrev pub Queries-read-back : Type 0
 Queries-read-back = (h : Sheet) → Valid h → (q : Query) → QueryFits h q → queryRead h (queryText q) ≡ Ok q
 
+-- and nothing else is read as a query
+abbrev pub Only-queries-read : Type 0
+Only-queries-read = (h : Sheet) (t : List ℕ) (q : Query) → queryRead h t ≡ Ok q → (QueryFits h q) × (t ≡ queryText q)
+
 -- the text of a reduction reads back as the reduction
 abbrev pub Reductions-read-back : Type 0
 Reductions-read-back = (h : Sheet) → Valid h → (f : ℕ) → f < length (h .lines) → queryRead h (queryText (reduction (h .lines) f)) ≡ Ok (reduction (h .lines) f)

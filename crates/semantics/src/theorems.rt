@@ -5,7 +5,7 @@ ghost use Rattle.semantics.specs.AccessLaws.{Access-transitive, Access-Euclide
 ghost use Rattle.semantics.specs.Resolving.{Query-sets-are-truth};
 ghost use Rattle.semantics.specs.Roads.{Two-roads};
 ghost use Rattle.semantics.specs.Evidence.{Evidence-where-due};
-ghost use Rattle.semantics.specs.ReadBack.{Queries-read-back, Reductions-read-back};
+ghost use Rattle.semantics.specs.ReadBack.{Queries-read-back, Only-queries-read, Reductions-read-back};
 ghost use Rattle.semantics.specs.RunLaws.{Runs-agree, Runs-show, Runs-account};
 ghost use Rattle.semantics.specs.Determined.{Texts-determine};
 ghost use Rattle.semantics.specs.Worked.{Worked};
@@ -84,6 +84,12 @@ pub fn evidence_where_due_stands() -> u8
 
 pub fn queries_read_back_stands() -> u8
     ensures { λ _. ⌜ Queries-read-back ⌝ }
+{
+    0
+}
+
+pub fn only_queries_read_stands() -> u8
+    ensures { λ _. ⌜ Only-queries-read ⌝ }
 {
     0
 }
