@@ -10,7 +10,7 @@ use Rattle.semantics.specs.SheetReading.{sheet_read}
 use Rattle.semantics.specs.SheetText.{sheet_text}
 use Rattle.semantics.specs.Written.{texts_below}
 use Rattle.semantics.specs.Worked.{sheet7, text7, query3, list_below, Worked}
-use Rattle.semantics.proofs.SheetsBack.{sheets_read_back}
+use Rattle.semantics.proofs.SheetsBack.{sheets_read_back, texts_determine}
 use Rattle.semantics.proofs.WorkedRun.{run_lawful}
 use Rattle.semantics.proofs.WorkedValid.{valid7}
 
