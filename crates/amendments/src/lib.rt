@@ -1,4 +1,5 @@
 //! Edits of a sheet: when they are refused, how they are made, and how they are taken back.
+#![tactic(auto)]
 
 pub mod checks;
 pub mod edit;

@@ -1,4 +1,5 @@
 //! The bench: one sheet, blank at first, that is read, judged, reported and written.
+#![tactic(auto)]
 
 mod bench;
 mod responding;

@@ -1,5 +1,6 @@
 //! Answers each of the sheets 000.sheet to 116.sheet as the report program would, on one bench, and sees that both
 //! kinds of set give the same report.
+#![tactic(auto)]
 
 use anyhow::anyhow;
 use bench::{Bench, respond};

@@ -1,4 +1,6 @@
 //! The fixpoint searches of until and globally and the paths that witness them, one text for every step rule and every kind of set.
+#![tactic(auto)]
+
 mod descent;
 mod globally_search;
 mod lasso;

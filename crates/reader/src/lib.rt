@@ -1,4 +1,5 @@
 //! Reads a sheet's text.
+#![tactic(auto)]
 
 mod readers;
 mod reading;

@@ -1,4 +1,5 @@
 //! Reads a sheet from standard input and prints its report, or where the sheet is at fault.
+#![tactic(auto)]
 
 use anyhow::anyhow;
 use bench::{Bench, respond};

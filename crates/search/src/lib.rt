@@ -1,4 +1,6 @@
 //! Step rules, a stack over lent slots, and the searches for next states, one text for every step rule and every kind of set.
+#![tactic(auto)]
+
 mod boolean;
 mod deadlock_search;
 mod next_search;

@@ -1,4 +1,6 @@
 //! Sets of state numbers: one trait, and two kinds of set that meet it.
+#![tactic(auto)]
+
 ghost use Rattle.std.specs.Prelude.{◌≡◌, ℕ, ◌<◌, Bool, true, false, if◌then◌else◌, nat_lt};
 ghost use Rattle.sets.specs.Member.{plus, minus};
 ghost use Rattle.semantics.specs.Sets.{union, Same, count};

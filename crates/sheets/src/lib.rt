@@ -1,4 +1,5 @@
 //! Commitment sheets as data.
+#![tactic(auto)]
 
 pub mod holders;
 pub mod moves;

@@ -1,4 +1,5 @@
 //! Texts of comma-separated fields: refusals with their places, number fields, lines, and a writer.
+#![tactic(auto)]
 
 pub mod cut;
 pub mod field;

@@ -1,4 +1,5 @@
 //! Takes one sheet from its text through its verdicts back to its text, and prints what was done.
+#![tactic(auto)]
 
 use bench::Bench;
 use sets::{BitSet, StateSet, count};

@@ -1,4 +1,5 @@
 //! A lent byte buffer as rows of 128 bits: row `k` is the sixteen bytes from `16 * k` on, the lowest first.
+#![tactic(auto)]
 
 ghost use Rattle.std.specs.Prelude.{◌≡◌, ℕ, ◌+◌, ◌*◌, ◌≤◌, length, if◌then◌else◌, ◌≢◌};
 ghost use Rattle.workspace.specs.Rows.{row_of, within, row_in};

@@ -1,4 +1,5 @@
 //! Writes a sheet's text.
+#![tactic(auto)]
 
 mod writing;
 

@@ -8,4 +8,4 @@ unfolding number row_of
 returns c =
     let k = c.args.k in
     let work = c.args.work.now in
-    c.from-le-bytes.ensures ∙ ap number (c.copy-from-slice.ensures.after ∙ ap (λ n. take n (drop (16 * k) work)) (sym (sixteen k)))
+    c.from_le_bytes.ensures ∙ ap number (c.copy_from_slice.ensures.after ∙ ap (λ n. take n (drop (16 * k) work)) (sym (sixteen k)))

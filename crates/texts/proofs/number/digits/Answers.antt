@@ -2,11 +2,11 @@ use Rattle.std.proofs.Common.{arith, rules}
 use Rattle.texts.proofs.Digits.{more, bad_low, bad_high, good, bound}
 use Rattle.texts.proofs.number.digits.Goals as goal
 
-pub returns-in-default-b : goal.returns-in-default-b
-returns-in-default-b c = bad_low c.loop-b.n c.loop-b.b-index c.args.bytes.now c.loop-b-test.true (omega arith) c.loop-b.invariant.0 c.loop-b.invariant.2
+pub returns-in_default-b : goal.returns-in_default-b
+returns-in_default-b c = bad_low c.loop-b.n c.loop-b.b-index c.args.bytes.now c.loop-b-test.true (omega arith) c.loop-b.invariant.0 c.loop-b.invariant.2
 
-pub returns-in-default-b·2 : goal.returns-in-default-b·2
-returns-in-default-b·2 c = bad_high c.loop-b.n c.loop-b.b-index c.args.bytes.now c.loop-b-test.true (omega arith) c.loop-b.invariant.0 c.loop-b.invariant.2
+pub returns-in_default-b-2 : goal.returns-in_default-b-2
+returns-in_default-b-2 c = bad_high c.loop-b.n c.loop-b.b-index c.args.bytes.now c.loop-b-test.true (omega arith) c.loop-b.invariant.0 c.loop-b.invariant.2
 
 pub loop-b-preserved : goal.loop-b-preserved
 loop-b-preserved c =

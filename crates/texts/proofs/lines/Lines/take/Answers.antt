@@ -4,11 +4,11 @@ use Rattle.texts.specs.Lines.{leads, Opened}
 use Rattle.texts.proofs.Opening.{taken_shorter, none_leads}
 use Rattle.texts.proofs.lines.Lines.take.Goals as goal
 
-pub returns-then-is-empty : goal.returns-then-is-empty
-returns-then-is-empty c = (none_leads c.args.letter c.args.self.now.rest.now (search rules), refl, refl)
+pub returns-then-is_empty : goal.returns-then-is_empty
+returns-then-is_empty c = (none_leads c.args.letter c.args.self.now.rest.now (search rules), refl, refl)
 
-pub invariant-of-self : goal.invariant-of-self
-invariant-of-self c =
+pub invariant_of-self : goal.invariant_of-self
+invariant_of-self c =
     (omega (arith, c.args.self.now.bounded, taken_shorter c.args.letter c.args.self.now.rest.now c.cut.ensures.front c.cut.ensures.back c.in-Some.ensures.0), tt)
 
 pub returns-in-Some : goal.returns-in-Some
