@@ -21,7 +21,7 @@ const EDIT_LIMIT: usize = 64;
 
 /// How many states below `states` a state leads to.
 fn steps_from<R: StepRule>(rule: &R, states: usize, from: usize) -> usize
-    ensures value { result ≡ count states (steps rule.now from) }
+    ensures value { result ≡ count states (R.steps rule.now from) }
     ensures bound { result ≤ states }
 {
     let mut total = 0;

@@ -22,7 +22,7 @@ use workspace::row;
 /// The states below `states` that `set` has, as the bits of a number.
 pub fn bits_of<S: StateSet>(states: usize, set: &S) -> u128
     requires { states ≤ 128 }
-    ensures { Same (in_bits result) (below states (holds set.now)) }
+    ensures { Same (in_bits result) (below states (S.holds set.now)) }
 {
     let mut bits = BitSet::new();
     let _ = copy(states, set, &mut bits);
@@ -38,8 +38,8 @@ fn operand(work: &[u8], k: u8) -> BitSet
 
 /// Makes `set` the states that have `mark`.
 fn mark_states<S: StateSet>(sheet: &Sheet, mark: u8, set: &mut S)
-    requires { (model_of sheet.now).states ≤ S.StateSet.room }
-    ensures { Same (S.StateSet.holds set.new) (below (model_of sheet.now).states (marked (model_of sheet.now) mark)) }
+    requires { (model_of sheet.now).states ≤ S.room }
+    ensures { Same (S.holds set.new) (below (model_of sheet.now).states (marked (model_of sheet.now) mark)) }
 {
     set.clear();
     for s in 0..sheet.state_count() {
@@ -51,24 +51,24 @@ fn mark_states<S: StateSet>(sheet: &Sheet, mark: u8, set: &mut S)
 
 /// Makes `set` the states that `operand` lacks.
 fn not_states<S: StateSet>(sheet: &Sheet, operand: &BitSet, set: &mut S)
-    requires { (model_of sheet.now).states ≤ S.StateSet.room }
-    ensures { Same (S.StateSet.holds set.new) (below (model_of sheet.now).states (outside (in_bits operand.now.bits))) }
+    requires { (model_of sheet.now).states ≤ S.room }
+    ensures { Same (S.holds set.new) (below (model_of sheet.now).states (outside (in_bits operand.now.bits))) }
 {
     let _ = complement(sheet.state_count(), operand, set);
 }
 
 /// Makes `set` the states of either operand.
 fn or_states<S: StateSet>(sheet: &Sheet, first: &BitSet, second: &BitSet, set: &mut S)
-    requires { (model_of sheet.now).states ≤ S.StateSet.room }
-    ensures { Same (S.StateSet.holds set.new) (below (model_of sheet.now).states (union (in_bits first.now.bits) (in_bits second.now.bits))) }
+    requires { (model_of sheet.now).states ≤ S.room }
+    ensures { Same (S.holds set.new) (below (model_of sheet.now).states (union (in_bits first.now.bits) (in_bits second.now.bits))) }
 {
     let _ = either(sheet.state_count(), first, second, set);
 }
 
 /// Makes `set` the states with a move into `operand`.
 fn next_states<S: StateSet>(sheet: &Sheet, operand: &BitSet, set: &mut S)
-    requires { (model_of sheet.now).states ≤ S.StateSet.room }
-    ensures { Same (S.StateSet.holds set.new) (some_next (model_of sheet.now).states (model_of sheet.now).moves (in_bits operand.now.bits)) }
+    requires { (model_of sheet.now).states ≤ S.room }
+    ensures { Same (S.holds set.new) (some_next (model_of sheet.now).states (model_of sheet.now).moves (in_bits operand.now.bits)) }
 {
     let _ = next(&sheet.moves(), sheet.state_count(), operand, set);
 }
@@ -80,9 +80,9 @@ fn globally_states<S: StateSet>(
     set: &mut S,
     slots: &mut [u8],
 ) -> usize
-    requires fits { (model_of sheet.now).states ≤ S.StateSet.room }
+    requires fits { (model_of sheet.now).states ≤ S.room }
     requires slots { 256 ≤ length slots.old }
-    ensures { Found (model_of sheet.now).states (globally_chain (model_of sheet.now).states (model_of sheet.now).moves (in_bits operand.now.bits)) (S.StateSet.holds set.new) result }
+    ensures { Found (model_of sheet.now).states (globally_chain (model_of sheet.now).states (model_of sheet.now).moves (in_bits operand.now.bits)) (S.holds set.new) result }
 {
     globally(&sheet.moves(), sheet.state_count(), operand, set, slots).unwrap_or(0)
 }
@@ -95,9 +95,9 @@ fn until_states<S: StateSet>(
     set: &mut S,
     slots: &mut [u8],
 ) -> usize
-    requires fits { (model_of sheet.now).states ≤ S.StateSet.room }
+    requires fits { (model_of sheet.now).states ≤ S.room }
     requires slots { 256 ≤ length slots.old }
-    ensures { Found (model_of sheet.now).states (until_chain (model_of sheet.now).states (model_of sheet.now).moves (in_bits first.now.bits) (in_bits second.now.bits)) (S.StateSet.holds set.new) result }
+    ensures { Found (model_of sheet.now).states (until_chain (model_of sheet.now).states (model_of sheet.now).moves (in_bits first.now.bits) (in_bits second.now.bits)) (S.holds set.new) result }
 {
     until(
         &sheet.moves(),
@@ -118,8 +118,8 @@ fn commitment_states<S: StateSet>(
     content: &BitSet,
     set: &mut S,
 )
-    requires { (model_of sheet.now).states ≤ S.StateSet.room }
-    ensures { Same (S.StateSet.holds set.new) (every_next (model_of sheet.now).states (commitment_access (model_of sheet.now) debtor creditor) (in_bits content.now.bits)) }
+    requires { (model_of sheet.now).states ≤ S.room }
+    ensures { Same (S.holds set.new) (every_next (model_of sheet.now).states (commitment_access (model_of sheet.now) debtor creditor) (in_bits content.now.bits)) }
 {
     let holders = sheet.holders();
     let access = Access {
@@ -139,8 +139,8 @@ fn fulfilment_states<S: StateSet>(
     content: &BitSet,
     set: &mut S,
 )
-    requires { (model_of sheet.now).states ≤ S.StateSet.room }
-    ensures { Same (S.StateSet.holds set.new) (some_next (model_of sheet.now).states (reversed (fulfilment_access (model_of sheet.now) debtor creditor)) (every_next (model_of sheet.now).states (commitment_access (model_of sheet.now) debtor creditor) (in_bits content.now.bits))) }
+    requires { (model_of sheet.now).states ≤ S.room }
+    ensures { Same (S.holds set.new) (some_next (model_of sheet.now).states (reversed (fulfilment_access (model_of sheet.now) debtor creditor)) (every_next (model_of sheet.now).states (commitment_access (model_of sheet.now) debtor creditor) (in_bits content.now.bits))) }
 {
     let states = sheet.state_count();
     let mut committed = BitSet::new();
@@ -164,9 +164,9 @@ pub fn evaluate<S: StateSet>(
     set: &mut S,
     slots: &mut [u8],
 ) -> usize
-    requires fits { (model_of sheet.now).states ≤ S.StateSet.room }
+    requires fits { (model_of sheet.now).states ≤ S.room }
     requires slots { 256 ≤ length slots.old }
-    ensures set { Same (S.StateSet.holds set.new) (set_of (model_of sheet.now) (sets_in work.now) (line_of row)) }
+    ensures set { Same (S.holds set.new) (set_of (model_of sheet.now) (sets_in work.now) (line_of row)) }
     ensures rounds { result ≡ rounds_of (model_of sheet.now) (sets_in work.now) (line_of row) }
     ensures bound { result ≤ (model_of sheet.now).states }
 {

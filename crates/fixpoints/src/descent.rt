@@ -27,7 +27,7 @@ pub(crate) fn place_of(items: &[u8], state: usize) -> Option<usize>
 /// Where a path goes on from `place`: at the first place before it that its state leads to, unless `goal` has its state.
 fn onward<R: StepRule, H: StateSet>(rule: &R, goal: &H, order: &[u8], place: usize) -> Option<usize>
     requires { place < length order.now }
-    ensures { MatchOption result ((holds goal.now (slice_index order.now place) || not (into_list (steps rule.now) (take place order.now) (slice_index order.now place))) ≡ true) (λ p. (p < place) × (holds goal.now (slice_index order.now place) ≡ false) × (steps rule.now (slice_index order.now place) (slice_index order.now p) ≡ true)) }
+    ensures { MatchOption result ((H.holds goal.now (slice_index order.now place) || not (into_list (R.steps rule.now) (take place order.now) (slice_index order.now place))) ≡ true) (λ p. (p < place) × (H.holds goal.now (slice_index order.now place) ≡ false) × (R.steps rule.now (slice_index order.now place) (slice_index order.now p) ≡ true)) }
 {
     let state = order[place] as usize;
     if goal.has(state) {
@@ -53,7 +53,7 @@ fn descend<R: StepRule, H: StateSet>(
     requires empty { contents walk.old ≡ [] }
     requires room { length order.now ≤ capacity walk.old }
     ensures behind { Behind walk.old walk.new }
-    ensures path { (n : ℕ) (f : ℕ → Bool) → ((k : ℕ) → among order.now k ≡ true → k < n) → Ordered (steps rule.now) f (holds goal.now) order.now → Reaching n (steps rule.now) (In f) (In (holds goal.now)) (slice_index order.now start) (record { path = contents walk.new; place = None }) }
+    ensures path { (n : ℕ) (f : ℕ → Bool) → ((k : ℕ) → among order.now k ≡ true → k < n) → Ordered (R.steps rule.now) f (H.holds goal.now) order.now → Reaching n (R.steps rule.now) (In f) (In (H.holds goal.now)) (slice_index order.now start) (record { path = contents walk.new; place = None }) }
 {
     let mut place = start;
     let _ = walk.push(order[place]);
@@ -76,10 +76,10 @@ pub fn until_path<R: StepRule, F: StateSet, H: StateSet, S: StateSet>(
     slots: &mut [u8],
     path: &mut [u8],
 ) -> Result<Option<usize>, NoRoom>
-    ensures fits { is_ok result ≡ (enough states S.StateSet.room (length slots.old) && nat_le states (length path.old)) }
+    ensures fits { is_ok result ≡ (enough states S.room (length slots.old) && nat_le states (length path.old)) }
     ensures unchanged { OnErr result ((set.new ≡ set.old) × (path.new ≡ path.old)) }
-    ensures set { OnOk result (Same (S.StateSet.holds set.new) (settled states (until_chain states (steps rule.now) (F.StateSet.holds first.now) (H.StateSet.holds second.now)))) }
-    ensures path { IfOk result (PathTo states (steps rule.now) (F.StateSet.holds first.now) (H.StateSet.holds second.now) state path.old path.new) }
+    ensures set { OnOk result (Same (S.holds set.new) (settled states (until_chain states (R.steps rule.now) (F.holds first.now) (H.holds second.now)))) }
+    ensures path { IfOk result (PathTo states (R.steps rule.now) (F.holds first.now) (H.holds second.now) state path.old path.new) }
 {
     if !enough(states, S::limit(), slots.len()) || states > path.len() {
         return Err(NoRoom);

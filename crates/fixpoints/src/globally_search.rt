@@ -22,9 +22,9 @@ fn leaves<R: StepRule, S: StateSet>(
     requires below { state < states }
     requires bytes { states ≤ 256 }
     requires starts { states ≤ length starts.old }
-    requires passed { Passed states (steps rule.now) (holds set.now) starts.old }
-    ensures told { result ≡ leaving states (steps rule.now) (holds set.now) state }
-    ensures passed { Passed states (steps rule.now) (holds set.now) starts.new }
+    requires passed { Passed states (R.steps rule.now) (S.holds set.now) starts.old }
+    ensures told { result ≡ leaving states (R.steps rule.now) (S.holds set.now) state }
+    ensures passed { Passed states (R.steps rule.now) (S.holds set.now) starts.new }
 {
     if !set.has(state) {
         return false;
@@ -50,10 +50,10 @@ fn push_leaving<R: StepRule, S: StateSet>(
     requires empty { contents stack.old ≡ [] }
     requires slots { states ≤ capacity stack.old }
     requires starts { states ≤ length starts.old }
-    requires passed { Passed states (steps rule.now) (holds set.now) starts.old }
-    ensures after { contents stack.new ≡ list_below states (leaving states (steps rule.now) (holds set.now)) }
+    requires passed { Passed states (R.steps rule.now) (S.holds set.now) starts.old }
+    ensures after { contents stack.new ≡ list_below states (leaving states (R.steps rule.now) (S.holds set.now)) }
     ensures size { capacity stack.new ≡ capacity stack.old }
-    ensures passed { Passed states (steps rule.now) (holds set.now) starts.new }
+    ensures passed { Passed states (R.steps rule.now) (S.holds set.now) starts.new }
 {
     for state in 0..states {
         if leaves(rule, states, state, set, starts) {
@@ -65,7 +65,7 @@ fn push_leaving<R: StepRule, S: StateSet>(
 /// Takes the states of the stack out of `set`, and empties the stack.
 fn remove_all<S: StateSet>(stack: &mut Stack<'_, u8>, set: &mut S)
     ensures empty { contents stack.new ≡ [] }
-    ensures after { Same (holds set.new) (λ k. not (among (contents stack.old) k) && holds set.old k) }
+    ensures after { Same (S.holds set.new) (λ k. not (among (contents stack.old) k) && S.holds set.old k) }
     ensures size { capacity stack.new ≡ capacity stack.old }
 {
     while let Some(state) = stack.pop() {
@@ -85,13 +85,13 @@ fn shrink<R: StepRule, S: StateSet>(
     requires empty { contents stack.old ≡ [] }
     requires slots { states ≤ capacity stack.old }
     requires starts { states ≤ length starts.old }
-    requires passed { Passed states (steps rule.now) (holds set.old) starts.old }
-    requires below { (k : ℕ) → holds set.old k ≡ true → k < states }
+    requires passed { Passed states (R.steps rule.now) (S.holds set.old) starts.old }
+    requires below { (k : ℕ) → S.holds set.old k ≡ true → k < states }
     ensures empty { contents stack.new ≡ [] }
     ensures size { capacity stack.new ≡ capacity stack.old }
-    ensures more { result ≡ any states (leaving states (steps rule.now) (holds set.old)) }
-    ensures after { Same (holds set.new) (globally_step states (steps rule.now) (holds set.old)) }
-    ensures passed { Passed states (steps rule.now) (holds set.new) starts.new }
+    ensures more { result ≡ any states (leaving states (R.steps rule.now) (S.holds set.old)) }
+    ensures after { Same (S.holds set.new) (globally_step states (R.steps rule.now) (S.holds set.old)) }
+    ensures passed { Passed states (R.steps rule.now) (S.holds set.new) starts.new }
 {
     push_leaving(rule, states, set, starts, stack);
     let more = !stack.is_empty();
@@ -107,11 +107,11 @@ pub(crate) fn globally_rounds<R: StepRule, F: StateSet, S: StateSet>(
     set: &mut S,
     slots: &mut [u8],
 ) -> usize
-    requires fits { states ≤ S.StateSet.room }
+    requires fits { states ≤ S.room }
     requires bytes { states ≤ 256 }
     requires slots { 2 * states ≤ length slots.old }
-    ensures after { Settles states (globally_chain states (steps rule.now) (F.StateSet.holds operand.now)) (S.StateSet.holds set.new) result }
-    ensures inside { Inside states (steps rule.now) (F.StateSet.holds operand.now) (S.StateSet.holds set.new) }
+    ensures after { Settles states (globally_chain states (R.steps rule.now) (F.holds operand.now)) (S.holds set.new) result }
+    ensures inside { Inside states (R.steps rule.now) (F.holds operand.now) (S.holds set.new) }
 {
     let _ = copy(states, operand, set);
     let (starts, rest) = slots.split_at_mut(states);
@@ -133,9 +133,9 @@ pub fn globally<R: StepRule, F: StateSet, S: StateSet>(
     set: &mut S,
     slots: &mut [u8],
 ) -> Option<usize>
-    ensures fits { is_some result ≡ enough states S.StateSet.room (length slots.old) }
-    ensures after { MatchOption result (set.new ≡ set.old) (Found states (globally_chain states (steps rule.now) (F.StateSet.holds operand.now)) (S.StateSet.holds set.new)) }
-    ensures inside { is_some result ≡ true → Inside states (steps rule.now) (F.StateSet.holds operand.now) (S.StateSet.holds set.new) }
+    ensures fits { is_some result ≡ enough states S.room (length slots.old) }
+    ensures after { MatchOption result (set.new ≡ set.old) (Found states (globally_chain states (R.steps rule.now) (F.holds operand.now)) (S.holds set.new)) }
+    ensures inside { is_some result ≡ true → Inside states (R.steps rule.now) (F.holds operand.now) (S.holds set.new) }
 {
     if !enough(states, S::limit(), slots.len()) {
         return None;

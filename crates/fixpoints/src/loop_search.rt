@@ -15,9 +15,9 @@ use sets::StateSet;
 
 /// The lowest state of `set` that `state` leads to, where each state of the set leads to one.
 fn lowest_inside<R: StepRule, S: StateSet>(rule: &R, states: usize, set: &S, state: usize) -> usize
-    requires closed { Inside states (steps rule.now) (holds set.now) (holds set.now) }
-    requires member { holds set.now state ≡ true }
-    ensures { (result < states) × (holds set.now result ≡ true) × (steps rule.now state result ≡ true) }
+    requires closed { Inside states (R.steps rule.now) (S.holds set.now) (S.holds set.now) }
+    requires member { S.holds set.now state ≡ true }
+    ensures { (result < states) × (S.holds set.now result ≡ true) × (R.steps rule.now state result ≡ true) }
 {
     first_step(rule, states, state, 0, set).unwrap_or(0)
 }
@@ -31,13 +31,13 @@ fn follow<R: StepRule, S: StateSet>(
     walk: &mut Stack<'_, u8>,
 ) -> usize
     requires bytes { states ≤ 256 }
-    requires closed { Inside states (steps rule.now) (holds set.now) (holds set.now) }
-    requires member { holds set.now start ≡ true }
+    requires closed { Inside states (R.steps rule.now) (S.holds set.now) (S.holds set.now) }
+    requires member { S.holds set.now start ≡ true }
     requires begins { contents walk.old ≡ start ∷ [] }
     requires room { states ≤ capacity walk.old }
     ensures behind { Behind walk.old walk.new }
     ensures some { 0 < length (contents walk.new) }
-    ensures path { Looping states (steps rule.now) (In (holds set.now)) start (record { path = contents walk.new; place = Some result }) }
+    ensures path { Looping states (R.steps rule.now) (In (S.holds set.now)) start (record { path = contents walk.new; place = Some result }) }
 {
     let mut last = start;
     'walk: loop {
@@ -62,10 +62,10 @@ pub fn globally_path<R: StepRule, F: StateSet, S: StateSet>(
     slots: &mut [u8],
     path: &mut [u8],
 ) -> Result<Option<Lasso>, NoRoom>
-    ensures fits { is_ok result ≡ (enough states S.StateSet.room (length slots.old) && nat_le states (length path.old)) }
+    ensures fits { is_ok result ≡ (enough states S.room (length slots.old) && nat_le states (length path.old)) }
     ensures unchanged { OnErr result ((set.new ≡ set.old) × (path.new ≡ path.old)) }
-    ensures set { OnOk result (Same (S.StateSet.holds set.new) (settled states (globally_chain states (steps rule.now) (F.StateSet.holds operand.now)))) }
-    ensures path { IfOk result (PathBack states (steps rule.now) (F.StateSet.holds operand.now) state path.old path.new) }
+    ensures set { OnOk result (Same (S.holds set.new) (settled states (globally_chain states (R.steps rule.now) (F.holds operand.now)))) }
+    ensures path { IfOk result (PathBack states (R.steps rule.now) (F.holds operand.now) state path.old path.new) }
 {
     if !enough(states, S::limit(), slots.len()) || states > path.len() {
         return Err(NoRoom);

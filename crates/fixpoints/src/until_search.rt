@@ -18,7 +18,7 @@ fn enters<R: StepRule, F: StateSet, S: StateSet>(
     first: &F,
     set: &S,
 ) -> bool
-    ensures { result ≡ (not (S.StateSet.holds set.now state) && (F.StateSet.holds first.now state && steps rule.now state target)) }
+    ensures { result ≡ (not (S.holds set.now state) && (F.holds first.now state && R.steps rule.now state target)) }
 {
     !set.has(state) && first.has(state) && rule.leads(state, target)
 }
@@ -33,12 +33,12 @@ fn add_predecessors<R: StepRule, F: StateSet, S: StateSet>(
     order: &mut Stack<'_, u8>,
 )
     requires bytes { states ≤ 256 }
-    requires fits { states ≤ S.StateSet.room }
+    requires fits { states ≤ S.room }
     requires slots { states ≤ capacity order.old }
-    requires few { length (contents order.old) + lacks states (S.StateSet.holds set.old) ≤ states }
-    ensures after { Same (S.StateSet.holds set.new) (λ k. S.StateSet.holds set.old k || below states (λ s. F.StateSet.holds first.now s && steps rule.now s target) k) }
-    ensures pushed { contents order.new ≡ contents order.old ++ list_below states (λ s. not (S.StateSet.holds set.old s) && (F.StateSet.holds first.now s && steps rule.now s target)) }
-    ensures few { length (contents order.new) + lacks states (S.StateSet.holds set.new) ≤ states }
+    requires few { length (contents order.old) + lacks states (S.holds set.old) ≤ states }
+    ensures after { Same (S.holds set.new) (λ k. S.holds set.old k || below states (λ s. F.holds first.now s && R.steps rule.now s target) k) }
+    ensures pushed { contents order.new ≡ contents order.old ++ list_below states (λ s. not (S.holds set.old s) && (F.holds first.now s && R.steps rule.now s target)) }
+    ensures few { length (contents order.new) + lacks states (S.holds set.new) ≤ states }
     ensures size { capacity order.new ≡ capacity order.old }
 {
     for state in 0..states {
@@ -60,20 +60,20 @@ fn grow<R: StepRule, F: StateSet, S: StateSet>(
     done: &mut usize,
 ) -> bool
     requires bytes { states ≤ 256 }
-    requires fits { states ≤ S.StateSet.room }
+    requires fits { states ≤ S.room }
     requires slots { states ≤ capacity order.old }
-    requires few { length (contents order.old) + lacks states (S.StateSet.holds set.old) ≤ states }
-    requires listed { Same (among (contents order.old)) (S.StateSet.holds set.old) }
+    requires few { length (contents order.old) + lacks states (S.holds set.old) ≤ states }
+    requires listed { Same (among (contents order.old)) (S.holds set.old) }
     requires within { done.old ≤ length (contents order.old) }
-    requires frontier { Frontier states (steps rule.now) (F.StateSet.holds first.now) (S.StateSet.holds set.old) (drop done.old (contents order.old)) }
-    ensures after { Same (S.StateSet.holds set.new) (until_step states (steps rule.now) (F.StateSet.holds first.now) (S.StateSet.holds set.old)) }
-    ensures added { Same (among (drop done.new (contents order.new))) (λ k. S.StateSet.holds set.new k && not (S.StateSet.holds set.old k)) }
+    requires frontier { Frontier states (R.steps rule.now) (F.holds first.now) (S.holds set.old) (drop done.old (contents order.old)) }
+    ensures after { Same (S.holds set.new) (until_step states (R.steps rule.now) (F.holds first.now) (S.holds set.old)) }
+    ensures added { Same (among (drop done.new (contents order.new))) (λ k. S.holds set.new k && not (S.holds set.old k)) }
     ensures more { result ≡ not (length (drop done.new (contents order.new)) == 0) }
-    ensures few { length (contents order.new) + lacks states (S.StateSet.holds set.new) ≤ states }
-    ensures listed { Same (among (contents order.new)) (S.StateSet.holds set.new) }
+    ensures few { length (contents order.new) + lacks states (S.holds set.new) ≤ states }
+    ensures listed { Same (among (contents order.new)) (S.holds set.new) }
     ensures size { capacity order.new ≡ capacity order.old }
     ensures within { done.new ≤ length (contents order.new) }
-    ensures ordered { (h : ℕ → Bool) → Ordered (steps rule.now) (F.StateSet.holds first.now) h (contents order.old) → Ordered (steps rule.now) (F.StateSet.holds first.now) h (contents order.new) }
+    ensures ordered { (h : ℕ → Bool) → Ordered (R.steps rule.now) (F.holds first.now) h (contents order.old) → Ordered (R.steps rule.now) (F.holds first.now) h (contents order.new) }
 {
     let end = order.len();
     for place in *done..end {
@@ -89,7 +89,7 @@ fn push_members<S: StateSet>(states: usize, set: &S, stack: &mut Stack<'_, u8>)
     requires bytes { states ≤ 256 }
     requires empty { contents stack.old ≡ [] }
     requires slots { states ≤ capacity stack.old }
-    ensures after { contents stack.new ≡ list_below states (holds set.now) }
+    ensures after { contents stack.new ≡ list_below states (S.holds set.now) }
     ensures size { capacity stack.new ≡ capacity stack.old }
 {
     for state in 0..states {
@@ -108,14 +108,14 @@ pub(crate) fn until_order<R: StepRule, F: StateSet, H: StateSet, S: StateSet>(
     set: &mut S,
     order: &mut Stack<'_, u8>,
 ) -> usize
-    requires fits { states ≤ S.StateSet.room }
+    requires fits { states ≤ S.room }
     requires bytes { states ≤ 256 }
     requires empty { contents order.old ≡ [] }
     requires slots { states ≤ capacity order.old }
-    ensures after { Settles states (until_chain states (steps rule.now) (F.StateSet.holds first.now) (H.StateSet.holds second.now)) (S.StateSet.holds set.new) result }
+    ensures after { Settles states (until_chain states (R.steps rule.now) (F.holds first.now) (H.holds second.now)) (S.holds set.new) result }
     ensures few { length (contents order.new) ≤ states }
-    ensures listed { Same (among (contents order.new)) (S.StateSet.holds set.new) }
-    ensures ordered { Ordered (steps rule.now) (F.StateSet.holds first.now) (H.StateSet.holds second.now) (contents order.new) }
+    ensures listed { Same (among (contents order.new)) (S.holds set.new) }
+    ensures ordered { Ordered (R.steps rule.now) (F.holds first.now) (H.holds second.now) (contents order.new) }
 {
     let _ = copy(states, second, set);
     push_members(states, set, order);
@@ -137,8 +137,8 @@ pub fn until<R: StepRule, F: StateSet, H: StateSet, S: StateSet>(
     set: &mut S,
     slots: &mut [u8],
 ) -> Option<usize>
-    ensures fits { is_some result ≡ enough states S.StateSet.room (length slots.old) }
-    ensures after { MatchOption result (set.new ≡ set.old) (Found states (until_chain states (steps rule.now) (F.StateSet.holds first.now) (H.StateSet.holds second.now)) (S.StateSet.holds set.new)) }
+    ensures fits { is_some result ≡ enough states S.room (length slots.old) }
+    ensures after { MatchOption result (set.new ≡ set.old) (Found states (until_chain states (R.steps rule.now) (F.holds first.now) (H.holds second.now)) (S.holds set.new)) }
 {
     if !enough(states, S::limit(), slots.len()) {
         return None;

@@ -27,14 +27,14 @@ pub struct Judgement {
 
 /// Whether `set` has state `s`, if that is a start.
 fn holds_if_start<S: StateSet>(sheet: &Sheet, set: &S, s: usize) -> bool
-    ensures { result ≡ start_has (model_of sheet.now) (holds set.now) s }
+    ensures { result ≡ start_has (model_of sheet.now) (S.holds set.now) s }
 {
     !sheet.is_start(s) || set.has(s)
 }
 
 /// Whether `set` has every start.
 pub(crate) fn holds_at_starts<S: StateSet>(sheet: &Sheet, set: &S) -> bool
-    ensures { result ≡ all (model_of sheet.now).states (start_has (model_of sheet.now) (holds set.now)) }
+    ensures { result ≡ all (model_of sheet.now).states (start_has (model_of sheet.now) (S.holds set.now)) }
 {
     for s in 0..sheet.state_count() {
         if !holds_if_start(sheet, set, s) {
@@ -56,11 +56,11 @@ pub(crate) fn judge_row<S: StateSet>(
 ) -> usize
     requires within { k < length (rows_of sheet.now) }
     requires row { row ≡ slice_index_or (rows_of sheet.now) k no_row }
-    requires fits { (model_of sheet.now).states ≤ S.StateSet.room }
+    requires fits { (model_of sheet.now).states ≤ S.room }
     requires sets { 1024 ≤ length sets.old }
     requires slots { 256 ≤ length slots.old }
     requires kept { Kept (model_of sheet.now) k sets.old }
-    ensures set { Same (S.StateSet.holds set.new) (line_set (model_of sheet.now) k) }
+    ensures set { Same (S.holds set.new) (line_set (model_of sheet.now) k) }
     ensures rounds { result ≡ line_rounds (model_of sheet.now) k }
     ensures bound { result ≤ 128 }
     ensures kept { Kept (model_of sheet.now) (k + 1) sets.new }
@@ -79,10 +79,10 @@ fn judge_rows<S: StateSet>(
     set: &mut S,
 ) -> usize
     requires line { line < length (rows_of sheet.now) }
-    requires fits { (model_of sheet.now).states ≤ S.StateSet.room }
+    requires fits { (model_of sheet.now).states ≤ S.room }
     requires sets { 1024 ≤ length sets.old }
     requires slots { 256 ≤ length slots.old }
-    ensures set { Same (S.StateSet.holds set.new) (line_set (model_of sheet.now) line) }
+    ensures set { Same (S.holds set.new) (line_set (model_of sheet.now) line) }
     ensures rounds { result ≡ line_rounds (model_of sheet.now) line }
 {
     let mut rounds = 0;
@@ -95,7 +95,7 @@ fn judge_rows<S: StateSet>(
 /// Why a call that judges is refused, if it is: a blank sheet, no such line, a short work buffer, or a set
 /// that is too small, in this order.
 fn check_judge<S: StateSet>(sheet: &Sheet, line: usize, work: usize) -> Result<(), Refusal>
-    ensures { result ≡ line_refusal (model_of sheet.now) line work room }
+    ensures { result ≡ line_refusal (model_of sheet.now) line work S.room }
 {
     if sheet.is_blank() {
         return Err(Refusal::Blank);
@@ -119,11 +119,11 @@ pub fn judge<S: StateSet>(
     work: &mut [u8],
     set: &mut S,
 ) -> Result<Judgement, Refusal>
-    ensures refuses { settled result ≡ judge_refusal (length (states_of sheet.now)) (length (rows_of sheet.now)) line (length work.old) room }
-    ensures answered { settled result ≡ line_refusal (model_of sheet.now) line (length work.old) room }
+    ensures refuses { settled result ≡ judge_refusal (length (states_of sheet.now)) (length (rows_of sheet.now)) line (length work.old) S.room }
+    ensures answered { settled result ≡ line_refusal (model_of sheet.now) line (length work.old) S.room }
     ensures unchanged { OnErr result (set.new ≡ set.old) }
-    ensures verdict { IfOk result (λ j. j.verdict ≡ starts_in (length (states_of sheet.now)) (states_of sheet.now) (holds set.new)) }
-    ensures judged { IfOk result (Judged (model_of sheet.now) line (holds set.new)) }
+    ensures verdict { IfOk result (λ j. j.verdict ≡ starts_in (length (states_of sheet.now)) (states_of sheet.now) (S.holds set.new)) }
+    ensures judged { IfOk result (Judged (model_of sheet.now) line (S.holds set.new)) }
 {
     check_judge::<S>(sheet, line, work.len())?;
     let (sets, slots) = work.split_at_mut(SETS_LENGTH);

@@ -69,10 +69,10 @@ pub fn report<S: StateSet>(
     set: &mut S,
     out: &mut [u8],
 ) -> Result<usize, Refusal>
-    ensures value { result ≡ report_answer (model_of sheet.now) (length work.old) (length out.old) room }
+    ensures value { result ≡ report_answer (model_of sheet.now) (length work.old) (length out.old) S.room }
     ensures text { out.new ≡ filled result (report_text (model_of sheet.now)) out.old }
     ensures unchanged { OnErr result ((set.new ≡ set.old) × (out.new ≡ out.old)) }
-    ensures done { IfOk result (λ n. (n ≤ length out.new) × ((k : ℕ) → holds set.new k ≡ false)) }
+    ensures done { IfOk result (λ n. (n ≤ length out.new) × ((k : ℕ) → S.holds set.new k ≡ false)) }
 {
     if sheet.is_blank() {
         return Err(Refusal::Blank);

@@ -5,8 +5,8 @@ use sets::StateSet;
 
 /// Makes `set` the states below `states` that `from` has, or answers `false` where it cannot hold them.
 pub fn copy<F: StateSet, S: StateSet>(states: usize, from: &F, set: &mut S) -> bool
-    ensures fits { result ≡ nat_le states S.StateSet.room }
-    ensures after { Same (S.StateSet.holds set.new) (if result then below states (F.StateSet.holds from.now) else S.StateSet.holds set.old) }
+    ensures fits { result ≡ nat_le states S.room }
+    ensures after { Same (S.holds set.new) (if result then below states (F.holds from.now) else S.holds set.old) }
 {
     if states > S::limit() {
         return false;
@@ -22,8 +22,8 @@ pub fn copy<F: StateSet, S: StateSet>(states: usize, from: &F, set: &mut S) -> b
 
 /// Makes `set` the states below `states` that `a` lacks, or answers `false` where it cannot hold them.
 pub fn complement<F: StateSet, S: StateSet>(states: usize, a: &F, set: &mut S) -> bool
-    ensures fits { result ≡ nat_le states S.StateSet.room }
-    ensures after { Same (S.StateSet.holds set.new) (if result then below states (outside (F.StateSet.holds a.now)) else S.StateSet.holds set.old) }
+    ensures fits { result ≡ nat_le states S.room }
+    ensures after { Same (S.holds set.new) (if result then below states (outside (F.holds a.now)) else S.holds set.old) }
 {
     if states > S::limit() {
         return false;
@@ -44,8 +44,8 @@ pub fn either<F: StateSet, G: StateSet, S: StateSet>(
     b: &G,
     set: &mut S,
 ) -> bool
-    ensures fits { result ≡ nat_le states S.StateSet.room }
-    ensures after { Same (S.StateSet.holds set.new) (if result then below states (union (F.StateSet.holds a.now) (G.StateSet.holds b.now)) else S.StateSet.holds set.old) }
+    ensures fits { result ≡ nat_le states S.room }
+    ensures after { Same (S.holds set.new) (if result then below states (union (F.holds a.now) (G.holds b.now)) else S.holds set.old) }
 {
     if states > S::limit() {
         return false;

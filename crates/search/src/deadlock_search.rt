@@ -5,7 +5,7 @@ use crate::StepRule;
 
 /// The lowest of the states below `states` that leads to none of them.
 pub fn lowest_without_step<R: StepRule>(rule: &R, states: usize) -> Option<usize>
-    ensures { MatchOption result ((u : ℕ) → u < states → has_step states (steps rule.now) u ≡ true) (λ s. (s < states) × (has_step states (steps rule.now) s ≡ false) × ((u : ℕ) → u < s → has_step states (steps rule.now) u ≡ true)) }
+    ensures { MatchOption result ((u : ℕ) → u < states → has_step states (R.steps rule.now) u ≡ true) (λ s. (s < states) × (has_step states (R.steps rule.now) s ≡ false) × ((u : ℕ) → u < s → has_step states (R.steps rule.now) u ≡ true)) }
 {
     'states: for from in 0..states {
         for to in 0..states {

@@ -13,7 +13,7 @@ pub fn first_step<R: StepRule, S: StateSet>(
     start: usize,
     set: &S,
 ) -> Option<usize>
-    ensures { FirstStep states (steps rule.now) (holds set.now) state start result }
+    ensures { FirstStep states (R.steps rule.now) (S.holds set.now) state start result }
 {
     for to in start..states {
         if set.has(to) && rule.leads(state, to) {
@@ -25,14 +25,14 @@ pub fn first_step<R: StepRule, S: StateSet>(
 
 /// Whether `from` leads to some state below `states` that `goal` has.
 fn leads_into<R: StepRule, G: StateSet>(rule: &R, states: usize, from: usize, goal: &G) -> bool
-    ensures { result ≡ into states (steps rule.now) (holds goal.now) from }
+    ensures { result ≡ into states (R.steps rule.now) (G.holds goal.now) from }
 {
     first_step(rule, states, from, 0, goal).is_some()
 }
 
 /// Whether `goal` has every state below `states` that `from` leads to.
 fn leads_only_into<R: StepRule, G: StateSet>(rule: &R, states: usize, from: usize, goal: &G) -> bool
-    ensures { result ≡ within states (steps rule.now) (holds goal.now) from }
+    ensures { result ≡ within states (R.steps rule.now) (G.holds goal.now) from }
 {
     for to in 0..states {
         if !goal.has(to) && rule.leads(from, to) {
@@ -49,8 +49,8 @@ pub fn next<R: StepRule, G: StateSet, S: StateSet>(
     goal: &G,
     set: &mut S,
 ) -> bool
-    ensures fits { result ≡ nat_le states S.StateSet.room }
-    ensures after { Same (S.StateSet.holds set.new) (if result then some_next states (steps rule.now) (G.StateSet.holds goal.now) else S.StateSet.holds set.old) }
+    ensures fits { result ≡ nat_le states S.room }
+    ensures after { Same (S.holds set.new) (if result then some_next states (R.steps rule.now) (G.holds goal.now) else S.holds set.old) }
 {
     if states > S::limit() {
         return false;
@@ -71,8 +71,8 @@ pub fn every_next<R: StepRule, G: StateSet, S: StateSet>(
     goal: &G,
     set: &mut S,
 ) -> bool
-    ensures fits { result ≡ nat_le states S.StateSet.room }
-    ensures after { Same (S.StateSet.holds set.new) (if result then every_next states (steps rule.now) (G.StateSet.holds goal.now) else S.StateSet.holds set.old) }
+    ensures fits { result ≡ nat_le states S.room }
+    ensures after { Same (S.holds set.new) (if result then every_next states (R.steps rule.now) (G.holds goal.now) else S.holds set.old) }
 {
     if states > S::limit() {
         return false;

@@ -52,7 +52,7 @@ pub trait StateSet {
 
 /// How many of the states below `states` are in `set`.
 pub fn count<S: StateSet>(set: &S, states: usize) -> usize
-    ensures { result ≡ count states (holds set.now) }
+    ensures { result ≡ count states (S.holds set.now) }
 {
     let mut total = 0;
     for state in 0..states {

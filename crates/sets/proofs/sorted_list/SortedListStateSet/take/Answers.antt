@@ -9,13 +9,13 @@ returns-then-state-ge-CAPACITY c =
     let x = c.args.self.now in
     has_not (among x.items x.len) c.args.state (above_none x.items x.len c.args.state x.small c.if-state-ge-CAPACITY.true)
 
-pub invariant-of-self : goal.invariant-of-self
-invariant-of-self c =
+pub invariant_of-self : goal.invariant_of-self
+invariant_of-self c =
     let x = c.args.self.now in
     let at = c.in-Ok.place in
     let a = c.in-Ok.ensures in
-    let ys = c.remove-at.new.items in
-    let e = c.remove-at.ensures in (
+    let ys = c.remove_at.new.items in
+    let e = c.remove_at.ensures in (
       omega (arith, x.short),
       (
         removed_small x.items ys x.len at c.args.state e a.within a.here x.rising x.small,
@@ -27,10 +27,10 @@ pub returns-in-Ok : goal.returns-in-Ok
 returns-in-Ok c =
     let x = c.args.self.now in
     let a = c.in-Ok.ensures in
-    removed_has x.items c.remove-at.new.items x.len c.in-Ok.place c.args.state c.remove-at.ensures a.within a.here x.rising
+    removed_has x.items c.remove_at.new.items x.len c.in-Ok.place c.args.state c.remove_at.ensures a.within a.here x.rising
 
-pub returns-in-default : goal.returns-in-default
-returns-in-default c =
+pub returns-in_default : goal.returns-in_default
+returns-in_default c =
     let x = c.args.self.now in
-    let b = c.in-default.ensures in
+    let b = c.in_default.ensures in
     has_not (among x.items x.len) c.args.state (between_none x.items x.len _ c.args.state x.rising b)

@@ -9,7 +9,9 @@ returns-then-is_empty c = (none_leads c.args.letter c.args.self.now.rest.now (se
 
 pub invariant_of-self : goal.invariant_of-self
 invariant_of-self c =
-    (omega (arith, c.args.self.now.bounded, taken_shorter c.args.letter c.args.self.now.rest.now c.cut.ensures.front c.cut.ensures.back c.in-Some.ensures.0), tt)
+    record {
+      bounded = omega (arith, c.args.self.now.bounded, taken_shorter c.args.letter c.args.self.now.rest.now c.cut.ensures.front c.cut.ensures.back c.in-Some.ensures.0);
+    }
 
 pub returns-in-Some : goal.returns-in-Some
 returns-in-Some c = (
