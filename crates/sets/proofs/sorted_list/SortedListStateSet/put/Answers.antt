@@ -20,13 +20,7 @@ invariant_of-self-in-Err c =
     let at = c.in-Err.place in
     let b = c.in-Err.ensures in
     let ys = c.insert_at.new.items in
-    let e = c.insert_at.ensures in (
-      omega (arith, between_fits x.items x.len at v x.short x.small x.rising c.if-state-ge-CAPACITY.false b),
-      (
-        inserted_small x.items ys x.len at v e b.within c.if-state-ge-CAPACITY.false x.small,
-        (inserted_rises x.items ys x.len at v e b.within x.rising b, tt),
-      ),
-    )
+    let e = c.insert_at.ensures in record { short = omega (arith, between_fits x.items x.len at v x.short x.small x.rising c.if-state-ge-CAPACITY.false b); small = inserted_small x.items ys x.len at v e b.within c.if-state-ge-CAPACITY.false x.small; rising = inserted_rises x.items ys x.len at v e b.within x.rising b }
 
 pub returns-in-Ok : goal.returns-in-Ok
 returns-in-Ok c =

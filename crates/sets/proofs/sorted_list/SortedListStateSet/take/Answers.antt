@@ -15,13 +15,7 @@ invariant_of-self c =
     let at = c.in-Ok.place in
     let a = c.in-Ok.ensures in
     let ys = c.remove_at.new.items in
-    let e = c.remove_at.ensures in (
-      omega (arith, x.short),
-      (
-        removed_small x.items ys x.len at c.args.state e a.within a.here x.rising x.small,
-        (removed_rises x.items ys x.len at c.args.state e a.within a.here x.rising, tt),
-      ),
-    )
+    let e = c.remove_at.ensures in record { short = omega (arith, x.short); small = removed_small x.items ys x.len at c.args.state e a.within a.here x.rising x.small; rising = removed_rises x.items ys x.len at c.args.state e a.within a.here x.rising }
 
 pub returns-in-Ok : goal.returns-in-Ok
 returns-in-Ok c =
