@@ -3,8 +3,8 @@ use Rattle.std.proofs.lemmas.List.{take_more}
 use Rattle.std.proofs.lemmas.Bool.{lt-ltb}
 use Rattle.search.proofs.stack.Stack.pop.Goals as goal
 
-pub offset-bounds-self-len : goal.offset-bounds-self-len
-offset-bounds-self-len g c =
+pub offset_bounds-self-len : goal.offset_bounds-self-len
+offset_bounds-self-len g c =
     let s = c.args.self.now in
     let lt : c.len-len.result - 1 < length s.slots.now = omega (arith, c.len-len.ensures.value, length-take s.len s.slots.now) in
     search rules
