@@ -48,7 +48,7 @@ module _ (h : Sheet) (v : Valid h) where
     marks_placed = v.marks_placed;
     positions_fit = v.positions_fit;
     positions_placed = v.positions_placed;
-    copies_fit_law = v.copies_fit_law;
+    copies_fit = v.copies_fit;
     copies_placed = v.copies_placed;
     moves_exist = exist;
     moves_few = few;
@@ -106,7 +106,7 @@ module _ (h : Sheet) (v : Valid h) where
     marks_placed = m-placed;
     positions_fit = p-fit;
     positions_placed = p-placed;
-    copies_fit_law = c-fit;
+    copies_fit = c-fit;
     copies_placed = c-placed;
     moves_exist = v.moves_exist;
     moves_few = omega (arith, v.moves_few, moves_fewer (with_values h m p c) h (λ s. omega arith) h.states);
@@ -122,12 +122,12 @@ module _ (h : Sheet) (v : Valid h) where
       (λ t j. cond_both (eqb t s && eqb j i) x (h.position t j) (λ y. 0 < y → (t < h.states) × (j < h.parties))
       (λ e _. let q = and_parts (eqb t s) (eqb j i) e in let a = eqb-true t s q.0 in let b = eqb-true j i q.1 in (omega arith, omega arith))
       (λ _. v.positions_placed t j))
-      v.copies_fit_law v.copies_placed
+      v.copies_fit v.copies_placed
 
   copy_valid : (s i c x : ℕ) → s < h.states → h.holds c i ≡ true → x ≤ 999 → Valid (edited h (set_value s i (the_copy c) x))
   copy_valid s i c x ls held lx =
       values_valid h.mark_sum h.position _ v.marks_fit v.marks_placed v.positions_fit v.positions_placed
-      (λ t j d. cond_both (eqb t s && (eqb j i && eqb d c)) x (h.copy t j d) (λ y. y ≤ 999) (λ _. lx) (λ _. v.copies_fit_law t j d))
+      (λ t j d. cond_both (eqb t s && (eqb j i && eqb d c)) x (h.copy t j d) (λ y. y ≤ 999) (λ _. lx) (λ _. v.copies_fit t j d))
       (λ t j d. cond_both (eqb t s && (eqb j i && eqb d c)) x (h.copy t j d) (λ y. 0 < y → (t < h.states) × (h.holds d j ≡ true))
       (λ e _.
       let q = and_parts (eqb t s) (eqb j i && eqb d c) e in
@@ -141,7 +141,7 @@ module _ (h : Sheet) (v : Valid h) where
       values_valid _ h.position h.copy
       (λ t. cond_both (eqb t s) x (h.mark_sum t) (λ y. y < 2 ^ h.marks) (λ _. lx) (λ _. v.marks_fit t))
       (λ t. cond_both (eqb t s) x (h.mark_sum t) (λ y. 0 < y → t < h.states) (λ e _. let a = eqb-true t s e in omega arith) (λ _. v.marks_placed t))
-      v.positions_fit v.positions_placed v.copies_fit_law v.copies_placed
+      v.positions_fit v.positions_placed v.copies_fit v.copies_placed
 
   pub edit_valid : (n : ℕ) (e : Edit) → Clear (edit_checks h n e) → Valid (edited h e)
   edit_valid n (join_move from to) c =

@@ -144,7 +144,7 @@ module _ (xs : List ℕ) (ps rows : List (List ℕ)) (locals : List (List (List 
       marks_placed = mark_placed;
       positions_fit = λ s p. omega (arith, (values_small s p).0);
       positions_placed = position_placed;
-      copies_fit_law = copy_fits;
+      copies_fit = copy_fits;
       copies_placed = copy_placed;
       moves_exist = listed_below (at xs 3) (at xs 3) qs w.moves;
       moves_few = omega (arith, listed_count whole qs (at xs 3), w.few_moves);

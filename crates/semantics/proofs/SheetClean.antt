@@ -48,7 +48,7 @@ module _ (h : Sheet) (v : Valid h) where
       omega (arith, lim.few_parties),
       (
         omega (arith, v.positions_fit s p),
-        all_below (λ n. n < 100000) h.channels _ (λ c _. all_cond (λ n. n < 100000) (h.holds c p) (h.copy s p c) (λ _. omega (arith, v.copies_fit_law s p c))),
+        all_below (λ n. n < 100000) h.channels _ (λ c _. all_cond (λ n. n < 100000) (h.holds c p) (h.copy s p c) (λ _. omega (arith, v.copies_fit s p c))),
       ),
     ),
   )

@@ -95,7 +95,7 @@ module _ (h : Sheet) (v : Valid h) where
 
   copies_length : (s p : ℕ) → length (copies_text h s p) ≤ 4 * h.channels
   copies_length s p = below_length h.channels 4 _ (λ c l.
-      cond_length (h.holds c p) (44 ∷ decimal (h.copy s p c)) 4 (omega (arith, decimal_length (h.copy s p c) (omega (arith, v.copies_fit_law s p c)))))
+      cond_length (h.holds c p) (44 ∷ decimal (h.copy s p c)) 4 (omega (arith, decimal_length (h.copy s p c) (omega (arith, v.copies_fit s p c)))))
 
   local_length : (s p : ℕ) → s < h.states → p < h.parties → length (local_text h s p) ≤ 46
   local_length s p ls lp =

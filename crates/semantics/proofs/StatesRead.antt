@@ -87,7 +87,7 @@ module _ (g h : Sheet) (v : Valid h) (states : g.states ≡ h.states) (parties :
   copies_ranged : (s p : ℕ) → Ranged (replicate (held_below g g.channels p) value) (copies_of h s p)
   copies_ranged s p = ranged_from (held_below g g.channels p) (copies_of h s p)
       (held_length (λ c. h.holds c p) (h.copy s p) h.channels ∙ ap (λ f. count h.channels (λ c. f c p)) (sym holds) ∙ ap (λ n. held_below g n p) (sym channels))
-      (all_below (λ y. y < 1000) h.channels _ (λ c _. all_cond (λ y. y < 1000) (h.holds c p) (h.copy s p c) (λ _. omega (arith, v.copies_fit_law s p c))))
+      (all_below (λ y. y < 1000) h.channels _ (λ c _. all_cond (λ y. y < 1000) (h.holds c p) (h.copy s p c) (λ _. omega (arith, v.copies_fit s p c))))
 
   pub locals_take : Takes {X = Sheet} (each_due h.states (λ s. each_due h.parties (λ p. due_line 76 (local_line g s p)))) (local_rows h)
       (list_below h.states (λ s. list_below h.parties (local_numbers h s)))

@@ -93,7 +93,7 @@ module _ (h : Sheet) (v : Valid h) where
       × (edited (edited h (set_value s i (the_copy c) x)) (set_value s i (the_copy c) (h.copy s i c)) ≡ h)
   copy_undone s i c x l k d held = (
     (
-      not_from_true _ (and_from _ _ (lt-ltb _ _ l) (and_from _ _ (lt-ltb _ _ k) (and_from _ _ (lt-ltb _ _ d) (le-leb _ _ (v.copies_fit_law s i c))))),
+      not_from_true _ (and_from _ _ (lt-ltb _ _ l) (and_from _ _ (lt-ltb _ _ k) (and_from _ _ (lt-ltb _ _ d) (le-leb _ _ (v.copies_fit s i c))))),
       (not_from_true _ held, (refl, tt)),
     ),
     ap (with_values h h.mark_sum h.position) (fun_ext (λ t. fun_ext (λ j. fun_ext (λ e.

@@ -39,8 +39,8 @@ positions_fit =
     rows_fit positions7
     (row 0 0 (omega arith) (omega arith), (row 1 0 (omega arith) (omega arith), (row 1 0 (omega arith) (omega arith), tt)))
 
-copies_fit_law : (s : ℕ) → Row (get_or copies7 s [])
-copies_fit_law =
+copies_fit : (s : ℕ) → Row (get_or copies7 s [])
+copies_fit =
     rows_fit copies7
     (row 300 300 (omega arith) (omega arith), (row 400 300 (omega arith) (omega arith), (row 400 400 (omega arith) (omega arith), tt)))
 
@@ -65,9 +65,9 @@ valid7 = record {
   marks_placed = placed (0 ∷ 2 ∷ 3 ∷ []);
   positions_fit = λ s p. (positions_fit s).0 p;
   positions_placed = λ s p l. let x = placed_row positions7 s p l in (x.0, omega (arith, x.1, (positions_fit s).1));
-  copies_fit_law = λ s p c. cond_both (eqb c 0) (get_or (get_or copies7 s []) p 0) 0 (λ v. v ≤ 999) (λ _. (copies_fit_law s).0 p) (λ _. omega arith);
+  copies_fit = λ s p c. cond_both (eqb c 0) (get_or (get_or copies7 s []) p 0) 0 (λ v. v ≤ 999) (λ _. (copies_fit s).0 p) (λ _. omega arith);
   copies_placed = λ s p c. cond_both (eqb c 0) (get_or (get_or copies7 s []) p 0) 0 (λ v. 0 < v → (s < 3) × ((eqb c 0 && ltb p 2) ≡ true))
-      (λ e l. let x = placed_row copies7 s p l in (x.0, and_from (eqb c 0) (ltb p 2) e (lt-ltb p 2 (omega (arith, x.1, (copies_fit_law s).1)))))
+      (λ e l. let x = placed_row copies7 s p l in (x.0, and_from (eqb c 0) (ltb p 2) e (lt-ltb p 2 (omega (arith, x.1, (copies_fit s).1)))))
       (λ _ l. absurd (omega arith));
   moves_exist = pairs_inside 3 moves7 ((lit< tt, lit< tt), ((lit< tt, lit< tt), ((lit< tt, lit< tt), tt)));
   moves_few = lit≤ tt;

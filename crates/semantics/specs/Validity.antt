@@ -51,7 +51,7 @@ pub record Valid (h : Sheet) : Type 0 where
   pub marks_placed : (s : ℕ) → 0 < h.mark_sum s → s < h.states
   pub positions_fit : (s p : ℕ) → h.position s p ≤ 999
   pub positions_placed : (s p : ℕ) → 0 < h.position s p → (s < h.states) × (p < h.parties)
-  pub copies_fit_law : (s p c : ℕ) → h.copy s p c ≤ 999
+  pub copies_fit : (s p c : ℕ) → h.copy s p c ≤ 999
   pub copies_placed : (s p c : ℕ) → 0 < h.copy s p c → (s < h.states) × (h.holds c p ≡ true)
   pub moves_exist : (s t : ℕ) → h.moves s t ≡ true → (s < h.states) × (t < h.states)
   pub moves_few : move_count h ≤ 1024

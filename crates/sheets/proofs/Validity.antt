@@ -155,9 +155,9 @@ module _ (s : Sheet) where
       | inr e ↦ e
     ]
 
-    sizes_fit : sizes_fit (model_of s) ≡ true
+    sizes_fit_law : sizes_fit (model_of s) ≡ true
     unfolding model_of
-    sizes_fit =
+    sizes_fit_law =
         let u = and_parts (between 1 9999 s.header.number) (leb 2 s.header.parties) used in
         and_from _ _ u.0 (and_from _ _ (and_from (leb 2 s.header.parties) _ u.1 (le-leb _ _ s.few_parties))
         (and_from (leb s.header.channels 8) _ (le-leb _ _ s.few_channels)
@@ -166,14 +166,14 @@ module _ (s : Sheet) where
 
     pub model_valid : Valid (model_of s)
     model_valid = record {
-      sizes_fit = sizes_fit;
+      sizes_fit = sizes_fit_law;
       holders_exist = holders_exist;
       starts_exist = starts_exist;
       marks_fit = marks_fit;
       marks_placed = marks_placed;
       positions_fit = positions_fit;
       positions_placed = positions_placed;
-      copies_fit_law = copies_fit_law;
+      copies_fit = copies_fit_law;
       copies_placed = copies_placed;
       moves_exist = moves_exist;
       moves_few = moves_few;

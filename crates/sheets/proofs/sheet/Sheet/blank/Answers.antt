@@ -5,10 +5,10 @@ use Rattle.sheets.specs.Moves.{all_move, move_count}
 use Rattle.sheets.proofs.Model.{within_from, none_move, no_moves}
 use Rattle.sheets.proofs.sheet.Sheet.blank.Goals as goal
 
-pub invariant-of-result : goal.invariant-of-result
-invariant-of-result c =
+pub invariant_of-result : goal.invariant_of-result
+invariant_of-result c =
     let w = within_from 0 0 c.none.result (λ k p on. absurd (both_ways _ (c.none.ensures k p) on)) in
-    let none = c.in-ok-tables.ensures.0 in
+    let none = c.in_ok-tables.ensures.0 in
     let m = ap all_move none ∙ none_move in
     let f = ap (states_fit 0) none in
     let b = ap start_fits none in

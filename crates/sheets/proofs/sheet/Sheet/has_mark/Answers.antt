@@ -8,7 +8,7 @@ use Rattle.sheets.proofs.sheet.Sheet.has_mark.Goals as goal
 pub returns-then-state-states : goal.returns-then-state-states
 unfolding model_of
 returns-then-state-states c =
-    let e = small_bits c.from-bits.result.bits c.args.mark (search rules) in
+    let e = small_bits c.from_bits.result.bits c.args.mark (search rules) in
     search rules
 
 pub returns-else-state-states : goal.returns-else-state-states
