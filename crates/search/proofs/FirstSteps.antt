@@ -1,5 +1,5 @@
 -- What the first step from a state on says of all its steps.
-use Rattle.std.proofs.Common.{◌≡◌, ℕ, ◌<◌, ◌≤◌, Bool, true, false, ◌&&◌, is_some, Some, None, Option, sym, inl, inr, arith}
+use Rattle.std.proofs.Common.{◌≡◌, ℕ, ◌<◌, ◌≤◌, Bool, true, false, ◌&&◌, is_some, Some, None, Option, sym, inl, inr}
 use Rattle.std.proofs.lemmas.Bool.{cases_lt}
 use Rattle.semantics.specs.Sets.{any, into}
 use Rattle.semantics.proofs.Quantifiers.{any_at, any_none, any_never}

@@ -3,7 +3,7 @@ use Rattle.std.proofs.Common.{ℕ, Bool, List, [], ◌∷◌, Some, None, Option
 use Rattle.semantics.specs.Books.{Book}
 use Rattle.semantics.specs.Calls.{Call}
 use Rattle.semantics.specs.Law.{Entry, Outcome, Lawful}
-use Rattle.semantics.specs.Requests.{called, after_call, tickets_after, set_after, Logged, LawfulLog, before, entered, calls_made, outcomes, LogsAreRuns}
+use Rattle.semantics.specs.Requests.{called, after_call, tickets_after, set_after, Logged, before, entered, calls_made, outcomes, LogsAreRuns}
 
 one_more : (r : Option Book) (z : ℕ → Bool) (e : Entry) (c : Option Call) (o : Option Outcome) (es : List Entry) (os : List Outcome) →
     Logged r z e c o → Lawful (after_call r c) (set_after z o) es os → Lawful r z (before (entered e c) es) (before o os)

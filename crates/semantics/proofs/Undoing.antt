@@ -1,8 +1,7 @@
 -- An accepted edit is taken back by its inverse.
-use Rattle.std.proofs.Common.{◌≡◌, ℕ, ◌^◌, ◌<◌, ◌≤◌, Bool, true, false, cond, not, ◌&&◌, ◌||◌, eqb, ltb, leb, List, [], ◌∷◌, None, sym, refl, ap, ◌∙◌, ⊎_elim, arith}
+use Rattle.std.proofs.Common.{◌≡◌, ℕ, ◌^◌, ◌<◌, Bool, true, false, cond, not, ◌&&◌, ◌||◌, eqb, ltb, leb, List, [], ◌∷◌, None, sym, refl, ap, ◌∙◌, ⊎_elim, arith}
 use mathlib.Core.Path.{fun_ext}
-use Rattle.std.proofs.lemmas.Bool.{and_parts, and_from, and_right, cases_Bool, cond-false, eq-eqb, eqb-true, le-leb, lt-leb, lt-ltb, ltb-true, leb-true, not-false, not_from_false, not_from_true, or_left, both_ways}
-use Rattle.semantics.specs.Sets.{any, count}
+use Rattle.std.proofs.lemmas.Bool.{and_parts, and_from, cases_Bool, cond-false, eq-eqb, eqb-true, le-leb, lt-leb, lt-ltb, ltb-true, not-false, not_from_false, not_from_true, or_left, both_ways}
 use Rattle.semantics.specs.Sheets.{Sheet}
 use Rattle.semantics.specs.Validity.{Valid, move_count}
 use Rattle.semantics.specs.Edits.{Edit, join_move, cut_move, set_value, set_marks, the_position, the_copy, with_moves, with_values, edited, first_of, edit_checks, other_move}

@@ -1,5 +1,5 @@
 -- That a sheet is valid is a proposition: it has at most one proof.
-use Rattle.std.proofs.Common.{◌≡◌, ℕ, ◌<◌, ◌≤◌, Bool}
+use Rattle.std.proofs.Common.{◌≡◌, ℕ, ◌<◌, Bool}
 use mathlib.Core.HLevel.{Π_prop, →_prop, ×_prop}
 use mathlib.Core.Bool.{Bool-set}
 use native.Mathlib.Bridge.{le_prop}

@@ -1,8 +1,8 @@
 -- The lines of sound rows fit.
-use Rattle.std.proofs.Common.{◌≡◌, ℕ, ◌+◌, ◌<◌, ◌≤◌, Bool, true, ◌&&◌, ltb, List, [], ◌∷◌, map, length, get_or, sym, refl, ap, ◌∙◌, arith}
+use Rattle.std.proofs.Common.{◌≡◌, ℕ, ◌+◌, ◌<◌, ◌≤◌, true, ltb, List, [], ◌∷◌, map, length, get_or, sym, refl, ◌∙◌, arith}
 use Rattle.std.proofs.lemmas.List.{get_or-map, length-map}
 use Rattle.std.proofs.lemmas.Bool.{and_parts, and_from}
-use Rattle.semantics.specs.Sheets.{Line, mark, shares, line_at}
+use Rattle.semantics.specs.Sheets.{mark, line_at}
 use Rattle.semantics.specs.Validity.{paired, line_fits, lines_fit}
 use Rattle.sheets.specs.declared.operator.Operator.{Operator}
 use Rattle.sheets.specs.declared.operator.Operator.TheVariants.{Mark, Not, Or, Next, Globally, Until, Commitment, Fulfilment}

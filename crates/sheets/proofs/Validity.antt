@@ -1,5 +1,5 @@
 -- A sheet that is not blank is valid.
-use Rattle.std.proofs.Common.{◌≡◌, ℕ, zero, suc, ◌+◌, ◌^◌, ◌<◌, ◌≤◌, Bool, true, false, cond, ◌&&◌, ◌||◌, eqb, ltb, leb, List, [], ◌∷◌, length, get_or, sym, refl, ap, ◌∙◌, subst, inl, inr, arith, pow_pos}
+use Rattle.std.proofs.Common.{◌≡◌, ℕ, zero, suc, ◌+◌, ◌^◌, ◌<◌, ◌≤◌, true, false, ◌&&◌, eqb, ltb, leb, List, [], ◌∷◌, length, get_or, sym, refl, ap, ◌∙◌, inl, inr, arith, pow_pos}
 use Rattle.std.proofs.lemmas.List.{get_or_past}
 use Rattle.std.proofs.lemmas.Bool.{cases_lt, cases_Bool, and_parts, and_from, or_cases, ltb-true, leb-true, lt-ltb, le-leb, eqb-true, eq-eqb, cond-true, cond-false, both_ways, false≢true}
 use Rattle.semantics.specs.Sets.{any, all, count, has_step}
@@ -11,9 +11,9 @@ use Rattle.sheets.specs.declared.sheet.Sheet.{Sheet}
 use Rattle.sheets.specs.Fitting.{copies_fit, local_fits, state_fits, states_fit, any_start, start_fits}
 use Rattle.sheets.specs.Holding.{held}
 use Rattle.sheets.specs.Model.{model_of, local_at}
-use Rattle.sheets.specs.Moves.{no_state, no_local, move_within, moves_from, all_move}
+use Rattle.sheets.specs.Moves.{no_state, move_within, moves_from, all_move}
 use Rattle.sheets.specs.Sheets.{states_of}
-use Rattle.sheets.proofs.Lines.{model_lines_fit, model_length, few_states, few_lines}
+use Rattle.sheets.proofs.Lines.{model_lines_fit, few_states, few_lines}
 use Rattle.sheets.proofs.Model.{held_within, no_start, no_position, no_copy}
 
 nothing_fits : (marks : ℕ) → state_fits marks no_state ≡ true

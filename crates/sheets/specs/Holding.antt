@@ -1,5 +1,5 @@
 -- Who holds which channel.
-use Rattle.std.specs.Prelude.{ℕ, zero, suc, ◌+◌, ◌*◌, Bool, true, false, cond, ◌&&◌, ◌||◌, nat_lt, slice_index_or}
+use Rattle.std.specs.Prelude.{ℕ, zero, suc, ◌+◌, ◌*◌, Bool, false, cond, ◌&&◌, nat_lt, slice_index_or}
 use Rattle.semantics.specs.Access.{implies}
 use Rattle.semantics.specs.Sets.{any, all}
 use Rattle.sheets.specs.declared.holders.Holders.{Holders}

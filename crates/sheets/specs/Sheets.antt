@@ -1,5 +1,5 @@
 -- The tables of a sheet, and what stands past their ends.
-use Rattle.std.specs.Prelude.{ℕ, List, [], vec_items}
+use Rattle.std.specs.Prelude.{List, [], vec_items}
 use Rattle.sheets.specs.declared.operator.Operator.TheVariants.{Mark}
 use Rattle.sheets.specs.declared.parts.Header.{Header}
 use Rattle.sheets.specs.declared.parts.Row.{Row}

@@ -1,5 +1,5 @@
 -- Bytes cut at a separator.
-use Rattle.std.specs.Prelude.{ℕ, ◌+◌, cond, List, [], ◌∷◌, length, take, drop, ◌==◌}
+use Rattle.std.specs.Prelude.{ℕ, ◌+◌, cond, List, [], ◌∷◌, take, drop, ◌==◌}
 
 -- where b stands first, or the length
 abbrev pub place : ℕ → List ℕ → ℕ

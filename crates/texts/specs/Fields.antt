@@ -1,5 +1,5 @@
 -- A number field within a range.
-use Rattle.std.specs.Prelude.{ℕ, Bool, true, false, cond, ◌&&◌, List, Ok, Err, Result, nat_le, nat_lt}
+use Rattle.std.specs.Prelude.{ℕ, cond, ◌&&◌, List, Ok, Err, Result, nat_le, nat_lt}
 use Rattle.texts.specs.declared.refusal.Fault.{Fault}
 use Rattle.texts.specs.declared.refusal.Place.{Place}
 use Rattle.texts.specs.declared.refusal.Refusal.{Refusal}

@@ -1,5 +1,5 @@
 -- A number field: one to five decimal digits without a leading zero.
-use Rattle.std.specs.Prelude.{◌≡◌, ℕ, ◌+◌, ◌-◌, ◌*◌, ◌<◌, Bool, true, false, cond, not, ◌&&◌, ◌||◌, List, [], ◌∷◌, length, Ok, Err, decimal, Result, ◌==◌, nat_le, nat_lt, slice_index}
+use Rattle.std.specs.Prelude.{◌≡◌, ℕ, ◌+◌, ◌-◌, ◌*◌, ◌<◌, Bool, cond, not, ◌&&◌, ◌||◌, List, [], ◌∷◌, length, Ok, Err, decimal, Result, ◌==◌, nat_le, nat_lt, slice_index}
 use Rattle.std.specs.Option.{ok_or}
 use Rattle.semantics.specs.Numbers as model
 use Rattle.texts.specs.declared.refusal.Refusal.{Refusal}

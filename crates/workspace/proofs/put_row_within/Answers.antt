@@ -1,4 +1,4 @@
-use Rattle.std.proofs.Common.{◌≡◌, ◌+◌, ◌-◌, ◌*◌, sym, ap, ◌∙◌, rules}
+use Rattle.std.proofs.Common.{◌+◌, ◌-◌, ◌*◌, sym, ◌∙◌, rules}
 use Rattle.workspace.proofs.Bytes.{sixteen, written}
 use Rattle.workspace.proofs.put_row_within.Goals as goal
 

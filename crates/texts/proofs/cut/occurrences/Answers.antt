@@ -1,4 +1,4 @@
-use Rattle.std.proofs.Common.{arith, rules}
+use Rattle.std.proofs.Common.{rules}
 use Rattle.texts.proofs.Parted.{count_here, count_more, count_end}
 use Rattle.texts.proofs.cut.occurrences.Goals as goal
 use Rattle.texts.proofs.cut.occurrences.Goals.{then-c-b, else-c-b}

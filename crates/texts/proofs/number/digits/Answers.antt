@@ -1,4 +1,4 @@
-use Rattle.std.proofs.Common.{arith, rules}
+use Rattle.std.proofs.Common.{arith}
 use Rattle.texts.proofs.Digits.{more, bad_low, bad_high, good, bound}
 use Rattle.texts.proofs.number.digits.Goals as goal
 

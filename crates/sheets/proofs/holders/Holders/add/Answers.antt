@@ -1,4 +1,4 @@
-use Rattle.std.proofs.Common.{◌≡◌, sym, ap, ◌∙◌, arith, rules}
+use Rattle.std.proofs.Common.{arith}
 use Rattle.sheets.proofs.Holding.{added}
 use Rattle.sheets.proofs.holders.Holders.add.Goals as goal
 

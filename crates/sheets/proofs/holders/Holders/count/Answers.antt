@@ -1,4 +1,4 @@
-use Rattle.std.proofs.Common.{true, false, sym, ◌∙◌, arith}
+use Rattle.std.proofs.Common.{true, false, sym, arith}
 use Rattle.sheets.proofs.Holding.{count_none, count_more}
 use Rattle.sheets.proofs.holders.Holders.count.Goals as goal
 use Rattle.sheets.proofs.holders.Holders.count.Goals.{then-has, else-has}

@@ -1,4 +1,4 @@
-use Rattle.std.proofs.Common.{sym, ap, ◌∙◌, rules}
+use Rattle.std.proofs.Common.{ap, ◌∙◌, rules}
 use Rattle.std.proofs.lemmas.Bool.{both_ways}
 use Rattle.sheets.specs.Fitting.{states_fit, start_fits}
 use Rattle.sheets.specs.Moves.{all_move, move_count}

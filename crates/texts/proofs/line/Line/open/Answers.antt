@@ -1,4 +1,4 @@
-use Rattle.std.proofs.Common.{◌+◌, sym, refl, ap, arith, rules}
+use Rattle.std.proofs.Common.{◌+◌, sym, refl, ap, rules}
 use Rattle.std.proofs.lemmas.List.{drop_all, take_rest}
 use Rattle.texts.proofs.Opening.{letter_alone, letter_first}
 use Rattle.texts.proofs.line.Line.open.Goals as goal

@@ -1,6 +1,5 @@
-use Rattle.std.proofs.Common.{◌≡◌, ℕ, ◌+◌, ◌<◌, true, List, length, Some, sym, refl, ap, subst, arith, rules}
-use Rattle.texts.specs.Cuts.{before, after}
-use Rattle.texts.specs.Lines.{leads, Opened}
+use Rattle.std.proofs.Common.{◌+◌, Some, refl, subst, arith, rules}
+use Rattle.texts.specs.Lines.{Opened}
 use Rattle.texts.proofs.Opening.{taken_shorter, none_leads}
 use Rattle.texts.proofs.lines.Lines.take.Goals as goal
 

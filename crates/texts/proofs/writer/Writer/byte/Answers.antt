@@ -1,4 +1,4 @@
-use Rattle.std.proofs.Common.{◌≡◌, sym, ap, ◌∙◌, arith, rules}
+use Rattle.std.proofs.Common.{sym, ap, ◌∙◌}
 use Rattle.std.proofs.lemmas.List.{set_past}
 use Rattle.texts.specs.Written.{onward}
 use Rattle.texts.proofs.Writing.{gave_byte}

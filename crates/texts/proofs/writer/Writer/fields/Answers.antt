@@ -1,4 +1,4 @@
-use Rattle.std.proofs.Common.{get_or, sym}
+use Rattle.std.proofs.Common.{sym}
 use Rattle.texts.proofs.Writing.{gave_none, gave_more, gave_as, fields_more, fields_all}
 use Rattle.texts.proofs.writer.Writer.fields.Goals as goal
 
