@@ -1,6 +1,6 @@
 -- The frontier of `until`: the states that the last round added.
 use Rattle.std.proofs.Common.{◌≡◌, ℕ, Bool, true, false, not, ◌&&◌, ◌||◌, eqb, ltb, List, [], ◌∷◌, sym, refl, ap, ◌∙◌, inl, inr}
-use Rattle.std.proofs.lemmas.Bool.{and_from, and_parts, both_ways, cases_Bool, eq-eqb, eqb-true, false≢true, lt-ltb, ltb-true, not_from_false, not-true, or_cases, or_left, or_right}
+use Rattle.std.proofs.lemmas.Bool.{and_from, and_parts, both_ways, cases_Bool, eq-eqb, false≢true, lt-ltb, ltb-true, not_from_false, not-true, or_cases, or_left, or_right}
 use Rattle.semantics.specs.Sets.{Same, below, into}
 use Rattle.sets.specs.MemberLaws.{same_from}
 use Rattle.semantics.specs.Chains.{until_step}

@@ -1,18 +1,16 @@
 -- A path of steps inside a set, until one leads back to it.
-use Rattle.std.proofs.Common.{◌≡◌, ℕ, zero, suc, ◌+◌, ◌<◌, ◌≤◌, Bool, true, false, ◌&&◌, ◌||◌, eqb, List, [], ◌∷◌, ◌++◌, length, get_or, take, Some, None, Option, unwrap_or, sym, refl, ap, ◌∙◌, subst, inl, inr, arith}
+use Rattle.std.proofs.Common.{◌≡◌, ℕ, zero, suc, ◌+◌, ◌<◌, ◌≤◌, Bool, true, false, ◌||◌, eqb, List, [], ◌∷◌, ◌++◌, length, get_or, take, Some, None, Option, unwrap_or, sym, refl, ap, ◌∙◌, subst, inl, inr, arith}
 use Rattle.std.proofs.lemmas.List.{get_or_append_left, get_or_push, length_push}
 use Rattle.std.proofs.lemmas.Bool.{and_parts, both_ways, cases_eq}
-use Rattle.sets.specs.Member.{plus}
 use Rattle.search.specs.Next.{FirstStep}
 use Rattle.search.specs.Stack.{contents, Behind}
 use Rattle.search.specs.declared.stack.Stack.{Stack}
 use Rattle.search.proofs.FirstSteps.{first_none}
 use Rattle.semantics.specs.Chains.{globally_chain, settled}
-use Rattle.semantics.specs.Sets.{Same, outside}
+use Rattle.semantics.specs.Sets.{outside}
 use Rattle.semantics.specs.Walks.{Walk, Looping}
 use Rattle.semantics.proofs.Counts.{count_le}
 use Rattle.semantics.proofs.Walks.{walk_one, walk_push}
-use Rattle.fixpoints.specs.declared.lasso.Lasso.{Lasso}
 use Rattle.fixpoints.specs.Rounds.{among, lacks}
 use Rattle.fixpoints.specs.Searches.{Inside}
 use Rattle.fixpoints.specs.Witnesses.{In, PathBack}

@@ -1,6 +1,6 @@
-use Rattle.std.proofs.Common.{◌≡◌, ℕ, ◌+◌, Bool, true, List, [], ◌∷◌, ◌++◌, length, get_or, sym, ap, ◌∙◌, subst, arith}
+use Rattle.std.proofs.Common.{◌≡◌, ℕ, ◌+◌, true, List, [], ◌∷◌, ◌++◌, length, get_or, sym, ap, ◌∙◌, subst, arith}
 use Rattle.std.proofs.lemmas.Bool.{cond-true, lt-ltb}
-use Rattle.search.specs.Stack.{contents, capacity}
+use Rattle.search.specs.Stack.{contents}
 use Rattle.search.proofs.StackLaws.{behind_first, behind_push, behind_trans}
 use Rattle.fixpoints.proofs.Descents.{Descending, descending_first, descending_more, descending_last}
 use Rattle.fixpoints.proofs.descent.descend.Goals as goal
@@ -55,5 +55,5 @@ returns g c =
     record {
       behind = behind_trans c.args.walk.now c.push.new.self c.loop-before.walk first m.3 (omega (arith, e.len ∙ cond-true _ _ _ on, none, m.2));
       path = λ n f inside o.
-          descending_last n s f h xs inside o (get_or xs c.args.start 0) c.loop-before.place (contents c.loop-before.walk) m.0 (m.4 n f inside o) c.in-default.ensures;
+          descending_last n s f h xs inside o (get_or xs c.args.start 0) c.loop-before.place (contents c.loop-before.walk) m.0 (m.4 n f inside o) c.in_default.ensures;
     }

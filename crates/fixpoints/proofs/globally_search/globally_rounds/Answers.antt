@@ -16,8 +16,8 @@ rounds-init g c =
     let z = g.S.StateSet.holds c.copy.new.set in
     let on = c.copy.ensures.fits ∙ le-leb n _ c.requires.fits in (
       c.new-stack.ensures.empty,
-      omega (arith, c.requires.slots, c.new-stack.ensures.size, c.split-at-mut-starts.ensures.back_len),
-      passed_first n (g.R.StepRule.steps c.args.rule.now) z c.fill.new.self (length c.split-at-mut-starts.result.0.now) (omega (arith, c.split-at-mut-starts.ensures.front-len)) (c.fill.ensures.after (λ y e. e)),
+      omega (arith, c.requires.slots, c.new-stack.ensures.size, c.split_at_mut-starts.ensures.back_len),
+      passed_first n (g.R.StepRule.steps c.args.rule.now) z c.fill.new.self (length c.split_at_mut-starts.result.0.now) (omega (arith, c.split_at_mut-starts.ensures.front_len)) (c.fill.ensures.after (λ y e. e)),
       running_first n (globally_step n (g.R.StepRule.steps c.args.rule.now)) start (count n) z
           (λ k. c.copy.ensures.after k ∙ cond_on c.copy.result start _ on k) (count_le n z),
     )
@@ -29,7 +29,7 @@ shrink-requires g c =
       bytes = c.requires.bytes;
       empty = m.0;
       slots = m.1;
-      starts = omega (arith, c.rounds.auto.starts, c.fill.ensures.len, c.split-at-mut-starts.ensures.front-len);
+      starts = omega (arith, c.rounds.auto.starts, c.fill.ensures.len, c.split_at_mut-starts.ensures.front_len);
       passed = m.2;
       below = chain_below c.args.states (g.R.StepRule.steps c.args.rule.now) (g.F.StateSet.holds c.args.operand.now) c.rounds.rounds (g.S.StateSet.holds c.rounds.set) m.3.is;
     }

@@ -14,13 +14,13 @@ returns g c =
     let z = g.S.StateSet.holds c.args.set.now in
     let p = leaving n steps z in
     record {
-      empty = c.remove-all.ensures.empty;
-      size = c.remove-all.ensures.size ∙ c.push-leaving.ensures.size;
-      more = ap not c.is-empty-more.ensures ∙ ap (λ xs. not (eqb (length xs) 0)) c.push-leaving.ensures.after ∙ some_below n p;
+      empty = c.remove_all.ensures.empty;
+      size = c.remove_all.ensures.size ∙ c.push_leaving.ensures.size;
+      more = ap not c.is_empty-more.ensures ∙ ap (λ xs. not (eqb (length xs) 0)) c.push_leaving.ensures.after ∙ some_below n p;
       after = λ k.
-          c.remove-all.ensures.after k ∙ ap (λ v. not v && z k) (ap (λ xs. among xs k) c.push-leaving.ensures.after ∙ among_below n p k)
+          c.remove_all.ensures.after k ∙ ap (λ v. not v && z k) (ap (λ xs. among xs k) c.push_leaving.ensures.after ∙ among_below n p k)
           ∙ round_keeps (ltb k n) (z k) (into n steps z k) (λ e. lt-ltb k n (c.requires.below k e));
       passed =
-          passed_fewer n steps z (g.S.StateSet.holds c.remove-all.new.set) c.push-leaving.new.starts
-          (λ k on. (and_parts _ (z k) (sym (c.remove-all.ensures.after k) ∙ on)).1) c.push-leaving.ensures.passed;
+          passed_fewer n steps z (g.S.StateSet.holds c.remove_all.new.set) c.push_leaving.new.starts
+          (λ k on. (and_parts _ (z k) (sym (c.remove_all.ensures.after k) ∙ on)).1) c.push_leaving.ensures.passed;
     }

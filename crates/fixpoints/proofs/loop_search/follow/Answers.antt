@@ -23,13 +23,13 @@ module _ (g : _) (c : goal.After-push g) where
   p = contents c.walk.walk
 
   abbrev to : ℕ
-  to = c.lowest-inside-to.result
+  to = c.lowest_inside-to.result
 
   fresh : among p to ≡ false
-  fresh = ap (λ v. among v to) (sym c.as-slice.ensures) ∙ c.in-default.ensures
+  fresh = ap (λ v. among v to) (sym c.as_slice.ensures) ∙ c.in_default.ensures
 
   falls : lacks c.args.states (among (p ++ to ∷ [])) < lacks c.args.states (among p)
-  falls = let h = c.lowest-inside-to.ensures in following_falls _ _ _ _ _ p c.walk.invariant.2 to h.0 h.1 h.2 fresh
+  falls = let h = c.lowest_inside-to.ensures in following_falls _ _ _ _ _ p c.walk.invariant.2 to h.0 h.1 h.2 fresh
 
   pushes : c.push.result ≡ true
   pushes = c.push.ensures.fits ∙ lt-ltb _ _ (omega (arith, falls, c.walk.invariant.2.few, c.walk.invariant.1.size, c.requires.room))
@@ -45,10 +45,10 @@ walk-preserved g c =
     let n = c.args.states in
     let s = g.R.StepRule.steps c.args.rule.now in
     let z = g.S.StateSet.holds c.args.set.now in
-    let h = c.lowest-inside-to.ensures in
+    let h = c.lowest_inside-to.ensures in
     let e = c.push.ensures in
     let P : List ℕ → Type 0 = Following n s z c.args.start (to g c) in (
       h.1,
       behind_push c.args.walk.now c.walk.walk c.push.new.self c.push.result (to g c) c.walk.invariant.1 (pushes g c) e.len e.size e.slots e.lent,
-      subst P (sym (longer g c)) (following_more n s z c.args.start c.walk.new (p g c) c.walk.invariant.2 (to g c) h.0 h.1 h.2 (fresh g c)),
+      subst P (sym (longer g c)) (following_more n s z c.args.start c.walk.last (p g c) c.walk.invariant.2 (to g c) h.0 h.1 h.2 (fresh g c)),
     )

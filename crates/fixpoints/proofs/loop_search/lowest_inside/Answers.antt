@@ -8,4 +8,4 @@ returns g c =
     let s = g.R.StepRule.steps c.args.rule.now in
     let z = g.S.StateSet.holds c.args.set.now in
     let Q : ℕ → Type 0 = λ r. (r < n) × (z r ≡ true) × (s c.args.state r ≡ true) in
-    subst Q (sym c.unwrap-or.ensures) (first_inside n s z c.args.state c.first-step.result c.requires.closed c.requires.member c.first-step.ensures)
+    subst Q (sym c.unwrap_or.ensures) (first_inside n s z c.args.state c.first_step.result c.requires.closed c.requires.member c.first_step.ensures)

@@ -23,11 +23,11 @@ loop-state-preserved g c =
       | then-enters t ↦ (
           let h = t.push.ensures in
           let y = g.S.StateSet.holds t.put.new.self in
-          adding_is n size p z xs (s + 1) (s + 1) y _ t.push.new.self _ refl (ap g.S.StateSet.holds t.set_is) t.order-is
+          adding_is n size p z xs (s + 1) (s + 1) y _ t.push.new.self _ refl (ap g.S.StateSet.holds t.set-is) t.order-is
           (adding_on n size p z xs s w v m g.S.StateSet.room y t.push.new.self t.put.result t.push.result c.requires.fits c.requires.slots c.loop-state-test.true
           t.if-enters.ensures t.put.ensures.fits t.put.ensures.after h.fits h.after h.len h.size))
       | else-enters t ↦
-          adding_is n size p z xs (s + 1) (s + 1) w _ v _ refl (ap g.S.StateSet.holds t.set_is) t.order-is (adding_off n size p z xs s w v m t.if-enters.ensures)
+          adding_is n size p z xs (s + 1) (s + 1) w _ v _ refl (ap g.S.StateSet.holds t.set-is) t.order-is (adding_off n size p z xs s w v m t.if-enters.ensures)
     ]
 
 pub returns : goal.returns
@@ -35,4 +35,4 @@ returns g c =
     let m = adding_is c.args.states (capacity c.args.order.now) _ (g.S.StateSet.holds c.args.set.now) (contents c.args.order.now)
     c.loop-state.state c.args.states (g.S.StateSet.holds c.loop-state.set) (g.S.StateSet.holds c.loop-state.set) c.loop-state.order c.loop-state.order
     (omega arith) refl refl c.loop-state.invariant in
-    record { after = m.in_set; pushed = m.on_stack; few = m.few; size = m.size-is }
+    record { after = m.in_set; pushed = m.on_stack; few = m.few; size = m.size_is }

@@ -1,11 +1,9 @@
-use Rattle.std.proofs.Common.{◌≡◌, ◌||◌, length, get_or, drop, sym, refl, ap, ◌∙◌, arith, length-append, length-drop, rules}
-use Rattle.std.proofs.lemmas.List.{drop_all}
+use Rattle.std.proofs.Common.{◌≡◌, length, get_or, drop, refl, ap, ◌∙◌, arith, length-append, length-drop}
 use Rattle.std.proofs.lemmas.Bool.Decides.{nat_tests}
-use Rattle.semantics.specs.Sets.{below}
-use Rattle.fixpoints.specs.Rounds.{among, into_list}
+use Rattle.fixpoints.specs.Rounds.{among}
 use Rattle.search.specs.Stack.{contents}
 use Rattle.fixpoints.proofs.Frontiers.{frontier_step}
-use Rattle.fixpoints.proofs.Growing.{Growing, growing_first, growing_more, growing_last}
+use Rattle.fixpoints.proofs.Growing.{growing_first, growing_more, growing_last}
 use Rattle.fixpoints.proofs.until_search.grow.Goals as goal
 
 pub loop-place-init : goal.loop-place-init
@@ -16,22 +14,22 @@ loop-place-init g c = (
       (contents c.args.order.now) c.requires.listed,
 )
 
-pub bounds-as-slice-place : goal.bounds-as-slice-place
-bounds-as-slice-place g c =
+pub bounds-as_slice-place : goal.bounds-as_slice-place
+bounds-as_slice-place g c =
     let xs = contents c.args.order.now in
     let long = ap length c.loop-place.invariant.2.front ∙ length-append xs (drop (length xs) (contents c.loop-place.order)) in
-    omega (arith, long, ap length c.as-slice.ensures, c.len-end.ensures.value)
+    omega (arith, long, ap length c.as_slice.ensures, c.len-end.ensures.value)
 
 pub loop-place-preserved : goal.loop-place-preserved
 loop-place-preserved g c =
-    let e = c.add-predecessors.ensures in
+    let e = c.add_predecessors.ensures in
     let place = c.loop-place.place in (
       e.size ∙ c.loop-place.invariant.0,
       e.few,
       growing_more c.args.states (g.R.StepRule.steps c.args.rule.now) (g.F.StateSet.holds c.args.first.now) (g.S.StateSet.holds c.args.set.now) c.args.done.now
           (contents c.args.order.now) place (g.S.StateSet.holds c.loop-place.set) (contents c.loop-place.order) c.loop-place.invariant.2
-          (omega (arith, c.len-end.ensures.value)) _ (ap (λ v. get_or v place 0) c.as-slice.ensures)
-          (g.S.StateSet.holds c.add-predecessors.new.set) (contents c.add-predecessors.new.order) e.after e.pushed,
+          (omega (arith, c.len-end.ensures.value)) _ (ap (λ v. get_or v place 0) c.as_slice.ensures)
+          (g.S.StateSet.holds c.add_predecessors.new.set) (contents c.add_predecessors.new.order) e.after e.pushed,
     )
 
 pub returns : goal.returns

@@ -12,5 +12,5 @@ returns g c =
     let h = g.H.StateSet.holds c.args.second.now in
     record {
       fits = search rules;
-      after = found n (until_chain n s f h) (g.S.StateSet.holds c.until-order.new.set) c.until-order.result c.until-order.ensures.after (until_settles n s f h);
+      after = found n (until_chain n s f h) (g.S.StateSet.holds c.until_order.new.set) c.until_order.result c.until_order.ensures.after (until_settles n s f h);
     }

@@ -1,10 +1,10 @@
-use Rattle.std.proofs.Common.{◌≡◌, ℕ, Bool, true, ltb, length, drop, sym, ap, ◌∙◌, arith}
+use Rattle.std.proofs.Common.{ltb, drop, sym, ◌∙◌, arith}
 use Rattle.std.proofs.lemmas.Bool.{and_parts, le-leb}
 use Rattle.sets.specs.MemberLaws.{cond_on}
 use Rattle.semantics.specs.Sets.{Same, below, outside}
 use Rattle.semantics.specs.Chains.{until_step}
 use Rattle.semantics.proofs.Counts.{count_le}
-use Rattle.fixpoints.specs.Rounds.{among, lacks}
+use Rattle.fixpoints.specs.Rounds.{lacks}
 use Rattle.search.specs.Stack.{contents}
 use Rattle.fixpoints.proofs.Frontiers.{frontier_first, frontier_next}
 use Rattle.fixpoints.proofs.Iteration.{running_first, running_more, running_last}
@@ -21,11 +21,11 @@ rounds-init g c =
     let h = g.H.StateSet.holds c.args.second.now in
     let start = below n h in
     let z = g.S.StateSet.holds c.copy.new.set in
-    let xs = contents c.push-members.new.stack in
-    let is = c.push-members.ensures.after in
+    let xs = contents c.push_members.new.stack in
+    let is = c.push_members.ensures.after in
     let on = c.copy.ensures.fits ∙ le-leb n _ c.requires.fits in
     let same : Same z start = λ k. c.copy.ensures.after k ∙ cond_on c.copy.result start _ on k in (
-      omega (arith, c.push-members.ensures.size, c.requires.slots),
+      omega (arith, c.push_members.ensures.size, c.requires.slots),
       omega (arith, length_members n z xs is),
       among_members n z xs is (λ k e. (and_parts (ltb k n) (h k) (sym (same k) ∙ e)).0),
       omega arith,
