@@ -6,4 +6,4 @@ pub loop-party-init : goal.loop-party-init
 loop-party-init c = texts_none (holder_text c.args.holders.now c.args.channel) c.args.writer.now c.args.writer.now.counted
 
 pub loop-party-preserved : goal.loop-party-preserved
-loop-party-preserved c = texts_more (holder_text c.args.holders.now c.args.channel) c.loop-party.party c.args.writer.now.counted c.loop-party.invariant c.write-holder.ensures
+loop-party-preserved c = texts_more (holder_text c.args.holders.now c.args.channel) c.loop-party.party c.args.writer.now.counted c.loop-party.invariant c.write_holder.ensures

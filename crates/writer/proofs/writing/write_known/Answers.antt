@@ -1,4 +1,4 @@
-use Rattle.std.proofs.Common.{◌≡◌, [], ◌∷◌, ap}
+use Rattle.std.proofs.Common.{◌≡◌, [], ◌∷◌}
 use Rattle.texts.specs.Written.{fields_text}
 use Rattle.texts.proofs.Writing.{gave_more, gave_as}
 use Rattle.writer.proofs.writing.write_known.Goals as goal
@@ -9,4 +9,4 @@ returns c =
     λ i. fields_text (c.args.k ∷ c.from.ensures i ∷ c.from-2.ensures i ∷ []) in
     gave_more c.args.writer.now.counted c.byte.ensures
     (gave_more c.byte.new.self.counted (gave_as e c.fields.ensures)
-    (gave_more c.fields.new.self.counted c.write-copies.ensures c.byte-2.ensures))
+    (gave_more c.fields.new.self.counted c.write_copies.ensures c.byte-2.ensures))

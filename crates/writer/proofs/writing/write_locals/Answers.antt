@@ -6,4 +6,4 @@ pub loop-k-init : goal.loop-k-init
 loop-k-init c = texts_none (state_locals_text c.args.holders.now c.args.parties c.args.states.now) c.args.writer.now c.args.writer.now.counted
 
 pub loop-k-preserved : goal.loop-k-preserved
-loop-k-preserved c = texts_more (state_locals_text c.args.holders.now c.args.parties c.args.states.now) c.loop-k.k c.args.writer.now.counted c.loop-k.invariant c.write-state-locals.ensures
+loop-k-preserved c = texts_more (state_locals_text c.args.holders.now c.args.parties c.args.states.now) c.loop-k.k c.args.writer.now.counted c.loop-k.invariant c.write_state_locals.ensures

@@ -6,4 +6,4 @@ pub loop-i-init : goal.loop-i-init
 loop-i-init c = texts_none (operand_text c.args.row.now) c.args.writer.now c.args.writer.now.counted
 
 pub loop-i-preserved : goal.loop-i-preserved
-loop-i-preserved c = texts_more (operand_text c.args.row.now) c.loop-i.i c.args.writer.now.counted c.loop-i.invariant c.write-operand.ensures
+loop-i-preserved c = texts_more (operand_text c.args.row.now) c.loop-i.i c.args.writer.now.counted c.loop-i.invariant c.write_operand.ensures

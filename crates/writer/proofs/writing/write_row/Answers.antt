@@ -8,4 +8,4 @@ returns c =
     (gave_more c.byte.new.self.counted c.field.ensures
     (gave_more c.field.new.self.counted c.byte-2.ensures
     (gave_more c.byte-2.new.self.counted (gave_as (ap (λ l. l ∷ []) c.letter.ensures) c.byte-3.ensures)
-    (gave_more c.byte-3.new.self.counted c.write-operands.ensures c.byte-4.ensures))))
+    (gave_more c.byte-3.new.self.counted c.write_operands.ensures c.byte-4.ensures))))

@@ -10,4 +10,4 @@ loop-party-init c = texts_none (local_text c.args.holders.now c.args.states.now 
 
 pub loop-party-preserved : goal.loop-party-preserved
 loop-party-preserved c = texts_more (local_text c.args.holders.now c.args.states.now c.args.k) c.loop-party.party c.args.writer.now.counted c.loop-party.invariant
-    (gave_as (ap (λ i. known_text c.args.holders.now c.args.k c.loop-party.party (get_or (get_or c.args.states.now c.args.k no_state).locals i no_local)) c.from.ensures) c.write-known.ensures)
+    (gave_as (ap (λ i. known_text c.args.holders.now c.args.k c.loop-party.party (get_or (get_or c.args.states.now c.args.k no_state).locals i no_local)) c.from.ensures) c.write_known.ensures)

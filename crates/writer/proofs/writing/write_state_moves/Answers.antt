@@ -6,4 +6,4 @@ pub loop-to-init : goal.loop-to-init
 loop-to-init c = texts_none (move_text c.args.states.now c.args.from) c.args.writer.now c.args.writer.now.counted
 
 pub loop-to-preserved : goal.loop-to-preserved
-loop-to-preserved c = texts_more (move_text c.args.states.now c.args.from) c.loop-to.to c.args.writer.now.counted c.loop-to.invariant c.write-move.ensures
+loop-to-preserved c = texts_more (move_text c.args.states.now c.args.from) c.loop-to.to c.args.writer.now.counted c.loop-to.invariant c.write_move.ensures
