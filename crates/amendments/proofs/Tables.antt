@@ -1,13 +1,12 @@
 -- The model of a table of states in which one state is another.
-use Rattle.std.proofs.Common.{◌≡◌, ℕ, ◌<◌, Bool, true, false, cond, not, ◌&&◌, ◌||◌, eqb, ltb, List, map, length, get_or, set, sym, refl, ap, ◌∙◌, inl, inr, arith, length-set}
+use Rattle.std.proofs.Common.{◌≡◌, ℕ, ◌<◌, cond, ◌&&◌, eqb, ltb, List, map, length, get_or, set, sym, refl, ap, ◌∙◌, inl, inr, length-set}
 use mathlib.Core.Path.{fun_ext}
 use Rattle.std.proofs.lemmas.List.{get_or-set_other, get_or-set_same}
 use Rattle.std.proofs.lemmas.Bool.{cases_eq, cond-false, cond-true, eq-eqb, ne_eqb}
-use Rattle.semantics.specs.Edits.{with_moves, with_values, edited, set_marks, set_value, the_position, the_copy}
+use Rattle.semantics.specs.Edits.{with_moves, with_values, edited, set_marks}
 use Rattle.sets.specs.Bits.{in_bits}
 use Rattle.sheets.specs.declared.holders.Holders.{Holders}
 use Rattle.sheets.specs.declared.parts.Header.{Header}
-use Rattle.sheets.specs.declared.parts.Local.{Local}
 use Rattle.sheets.specs.declared.parts.Row.{Row}
 use Rattle.sheets.specs.declared.parts.State.{State}
 use Rattle.sheets.specs.Holding.{held}

@@ -14,8 +14,8 @@ returns c head who rows on =
     let x : State = record {
       start = (get_or ss at no_state).start;
       marks = (get_or ss at no_state).marks;
-      locals = c.with-local-locals.result;
+      locals = c.with_local-locals.result;
       successors = (get_or ss at no_state).successors;
     } in
-    let new : Local = record { position = (local_at ss at party).position; copies = c.with-copy-copies.result } in
-    copy_changed ss at x c.requires.0 party new c.with-local-locals.ensures head who rows refl refl refl c.args.channel c.args.number on refl c.with-copy-copies.ensures
+    let new : Local = record { position = (local_at ss at party).position; copies = c.with_copy-copies.result } in
+    copy_changed ss at x c.requires.0 party new c.with_local-locals.ensures head who rows refl refl refl c.args.channel c.args.number on refl c.with_copy-copies.ensures

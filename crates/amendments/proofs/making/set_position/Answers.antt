@@ -14,8 +14,8 @@ returns c head who rows l =
     let x : State = record {
       start = (get_or ss at no_state).start;
       marks = (get_or ss at no_state).marks;
-      locals = c.with-local-locals.result;
+      locals = c.with_local-locals.result;
       successors = (get_or ss at no_state).successors;
     } in
     let new : Local = record { position = c.args.number; copies = (local_at ss at party).copies } in
-    position_changed ss at x c.requires.0 party new c.with-local-locals.ensures head who rows refl refl refl l refl
+    position_changed ss at x c.requires.0 party new c.with_local-locals.ensures head who rows refl refl refl l refl
