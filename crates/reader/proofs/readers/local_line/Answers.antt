@@ -5,5 +5,5 @@ use Rattle.reader.proofs.readers.local_line.Goals as goal
 pub returns : goal.returns
 returns c = record {
   value = search rules;
-  fits = known_fits _ (omega (arith, c.in-ok-position.ensures.within.1)) c.in-ok-copies.ensures.fits;
+  fits = known_fits _ (omega (arith, c.in_ok-position.ensures.within.1)) c.in_ok-copies.ensures.fits;
 }
