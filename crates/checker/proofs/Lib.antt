@@ -1,3 +1,4 @@
 pub mod AccessParts
 pub mod Evaluated
 pub mod Sharing
+pub mod SameAccess

@@ -1,5 +1,5 @@
 -- Parties that share a channel are among the six.
-use Rattle.std.proofs.Common.{◌≡◌, ℕ, zero, suc, ◌<◌, true, ◌&&◌, ltb, get_or, inl, inr}
+use Rattle.std.proofs.Common.{◌≡◌, ℕ, zero, suc, ◌<◌, true, ◌&&◌, ltb, inl, inr}
 use Rattle.std.proofs.lemmas.Bool.{and_parts, or_cases, ltb-true, false≢true}
 use Rattle.sheets.specs.declared.holders.Holders.{Holders}
 use Rattle.sheets.specs.Holding.{held, share_some}

@@ -1,5 +1,5 @@
 -- Which states are accessible from which, for a debtor and a creditor.
-use Rattle.std.specs.Prelude.{ℕ, Bool, true, false, cond, not, ◌&&◌, ◌||◌, List, length, get_or, ◌==◌, nat_lt, slice_index, slice_index_or}
+use Rattle.std.specs.Prelude.{ℕ, Bool, not, ◌&&◌, ◌||◌, List, length, get_or, ◌==◌, nat_lt, slice_index, slice_index_or}
 use Rattle.semantics.specs.Sets.{all}
 use Rattle.sheets.specs.declared.holders.Holders.{Holders}
 use Rattle.sheets.specs.declared.parts.Local.{Local}

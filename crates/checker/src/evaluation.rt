@@ -1,6 +1,6 @@
 ghost use Rattle.std.specs.Prelude.{◌≡◌, ℕ, ◌≤◌, length};
 ghost use Rattle.sets.specs.Bits.{in_bits};
-ghost use Rattle.semantics.specs.Access.{commitment_access, fulfilment_access};
+ghost use Rattle.semantics.specs.Access.{access, commitment_access, fulfilment_access};
 ghost use Rattle.semantics.specs.Chains.{globally_chain, until_chain};
 ghost use Rattle.semantics.specs.Judging.{set_of, rounds_of};
 ghost use Rattle.semantics.specs.Sets.{Same, below, outside, union, some_next, every_next, reversed};
@@ -8,12 +8,14 @@ ghost use Rattle.semantics.specs.Sheets.{marked};
 ghost use Rattle.fixpoints.specs.Searches.{Found};
 ghost use Rattle.sheets.specs.Model.{model_of, line_of};
 ghost use Rattle.workspace.specs.Rows.{row_in};
+ghost use Rattle.checker.specs.Access.{accessible};
 ghost use Rattle.checker.specs.Evaluation.{sets_in};
 
 use crate::access::Access;
 use fixpoints::{globally, until};
 use search::{Reversed, complement, copy, either, every_next, next};
 use sets::{BitSet, StateSet};
+use sheets::holders::Holders;
 use sheets::operator::Operator;
 use sheets::parts::Row;
 use sheets::sheet::Sheet;
@@ -110,6 +112,19 @@ fn until_states<S: StateSet>(
     .unwrap_or(0)
 }
 
+/// Access on a sheet, whose holders are `holders`, for a debtor and a creditor.
+fn access_on<'a>(sheet: &'a Sheet, holders: &'a Holders, debtor: u8, creditor: u8) -> Access<'a>
+    requires { holders.now ≡ sheet.now.holders }
+    ensures { accessible result.holders.now result.states.now result.debtor result.creditor ≡ access (model_of sheet.now) debtor creditor }
+{
+    Access {
+        states: sheet.states(),
+        holders,
+        debtor: usize::from(debtor),
+        creditor: usize::from(creditor),
+    }
+}
+
 /// Makes `set` the states where the debtor is committed to the creditor to bring about `content`.
 fn commitment_states<S: StateSet>(
     sheet: &Sheet,
@@ -122,12 +137,7 @@ fn commitment_states<S: StateSet>(
     ensures { Same (S.holds set.new) (every_next (model_of sheet.now).states (commitment_access (model_of sheet.now) debtor creditor) (in_bits content.now.bits)) }
 {
     let holders = sheet.holders();
-    let access = Access {
-        states: sheet.states(),
-        holders: &holders,
-        debtor: usize::from(debtor),
-        creditor: usize::from(creditor),
-    };
+    let access = access_on(sheet, &holders, debtor, creditor);
     let _ = every_next(&access, sheet.state_count(), content, set);
 }
 
@@ -146,12 +156,7 @@ fn fulfilment_states<S: StateSet>(
     let mut committed = BitSet::new();
     commitment_states(sheet, debtor, creditor, content, &mut committed);
     let holders = sheet.holders();
-    let access = Access {
-        states: sheet.states(),
-        holders: &holders,
-        debtor: usize::from(debtor),
-        creditor: usize::from(creditor),
-    };
+    let access = access_on(sheet, &holders, debtor, creditor);
     let _ = next(&Reversed(&access), states, &committed, set);
 }
 

@@ -1,5 +1,5 @@
 use Rattle.std.proofs.Common.{sym, refl}
-use Rattle.search.proofs.Quantifiers.{all_more, all_not}
+use Rattle.semantics.proofs.Quantifiers.{all_more, all_not}
 use Rattle.checker.specs.Access.{agreed, all_agreed}
 use Rattle.checker.proofs.access.Access.all_agree.Goals as goal
 

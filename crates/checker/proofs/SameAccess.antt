@@ -1,0 +1,95 @@
+-- Access by the program's tables is access on the sheet that they hold.
+use Rattle.std.proofs.Common.{◌≡◌, ℕ, ◌<◌, ◌≤◌, Bool, true, false, cond, not, ◌&&◌, eqb, ltb, length, refl, sym, ap, ◌∙◌, inl, inr, arith}
+use mathlib.Core.Path.{fun_ext}
+use Rattle.std.proofs.lemmas.Bool.{and_parts, cases_Bool, lt-ltb, ltb-true, ltb-false, false≢true}
+use Rattle.std.proofs.lemmas.Bool.Decides.{same_from_decides, Decides-like}
+use Rattle.semantics.specs.Access.{implies, access}
+use Rattle.semantics.specs.Sets.{all}
+use Rattle.semantics.specs.Sheets.{shares}
+use Rattle.semantics.proofs.Quantifiers.{all_says, any_says}
+use Rattle.sheets.specs.declared.sheet.Sheet.{Sheet}
+use Rattle.sheets.specs.Holding.{held, share_some}
+use Rattle.sheets.specs.Model.{local_at, model_of}
+use Rattle.sheets.specs.Sheets.{states_of}
+use Rattle.sheets.proofs.Model.{held_within, shares_is}
+use Rattle.checker.specs.Access.{agreed, all_agreed, same_position, accessible}
+use Rattle.checker.proofs.AccessParts.{allows, access_is}
+
+-- a copy counts only where its channel is held
+channel : (a b : Bool) (p q r s : ℕ) →
+    (implies a (eqb p q) && (implies (a && b) (eqb p r) && implies (b && not a) (eqb s r)))
+    ≡ (implies a (eqb (cond a p 0) (cond a q 0)) && (implies (a && b) (eqb (cond a p 0) (cond b r 0)) && implies (b && not a) (eqb (cond b s 0) (cond b r 0))))
+channel true true p q r s = refl
+channel true false p q r s = refl
+channel false true p q r s = refl
+channel false false p q r s = refl
+
+-- where neither holds a channel, it allows every step
+free : (a b x y z : Bool) → a ≡ false → b ≡ false → (implies a x && (implies (a && b) y && implies (b && not a) z)) ≡ true
+free false false x y z e f = refl
+free true b x y z e f = absurd (false≢true (sym e))
+free false true x y z e f = absurd (false≢true (sym f))
+
+-- a test that passes from m on
+all_wider : (f : ℕ → Bool) (m n : ℕ) → m ≤ n → ((c : ℕ) → m ≤ c → f c ≡ true) → all n f ≡ all m f
+all_wider f m n l high = same_from_decides (all n f) (all m f) (all_says n f)
+    (Decides-like (all m f) (λ x c k. elim (cases_Bool (ltb c m)) [ inl e ↦ x c (ltb-true c m e) | inr e ↦ high c (ltb-false c m e) ])
+    (λ x c k. x c (omega (arith, k))) (all_says m f))
+
+guarded : (a b x y : Bool) → a ≡ b → (a ≡ true → x ≡ y) → (a && x) ≡ (b && y)
+guarded true b x y e f = f refl ∙ ap (λ c. c && y) e
+guarded false b x y e f = ap (λ c. c && y) e
+
+both_states : (a b r : Bool) → (a && (b && r)) ≡ ((a && b) && r)
+both_states true b r = refl
+both_states false b r = refl
+
+module _ (s : Sheet) (i j x t : ℕ) where
+  unheld : (c p : ℕ) → s.header.channels ≤ c → held s.holders c p ≡ false
+  unheld c p l = elim (cases_Bool (held s.holders c p)) [
+    | inl on ↦ absurd (omega (arith, l, (held_within _ _ s.holders s.holders_exist c p on).0))
+    | inr off ↦ off
+  ]
+
+  agreed_is : (c : ℕ) → agreed s.holders (states_of s) i j x t c ≡ allows (model_of s) i j x t c
+  unfolding model_of
+  agreed_is c = channel (held s.holders c i) (held s.holders c j) _ _ _ _
+
+  all_agreed_is : all_agreed 8 s.holders (states_of s) i j x t ≡ all (model_of s).channels (allows (model_of s) i j x t)
+  unfolding all_agreed model_of
+  all_agreed_is = ap (all 8) (fun_ext agreed_is)
+      ∙ all_wider (allows (model_of s) i j x t) s.header.channels 8 s.few_channels
+      (λ c l. free (held s.holders c i) (held s.holders c j) _ _ _ (unheld c i l) (unheld c j l))
+
+  -- a party that shares a channel is one of the sheet's
+  sharing_party : share_some 8 s.holders i j ≡ true → i < s.header.parties
+  unfolding share_some
+  sharing_party on =
+      let c = (any_says 8 (λ c. held s.holders c i && held s.holders c j)).0 on in
+      (held_within _ _ s.holders s.holders_exist c.0 i (and_parts _ _ c.2).0).1
+
+  positions_are : share_some 8 s.holders i j ≡ true → same_position (states_of s) i x t ≡ eqb ((model_of s).position x i) ((model_of s).position t i)
+  unfolding model_of
+  positions_are on =
+      let within = lt-ltb i s.header.parties (sharing_party on) in
+      sym (ap (λ b. eqb (cond b (local_at (states_of s) x i).position 0) (cond b (local_at (states_of s) t i).position 0)) within)
+
+  states_same : length (states_of s) ≡ (model_of s).states
+  unfolding model_of
+  states_same = refl
+
+  same_at : accessible s.holders (states_of s) i j x t ≡ access (model_of s) i j x t
+  same_at =
+      let h = model_of s in
+      let rest = shares h i j && (eqb (h.position x i) (h.position t i) && all h.channels (allows h i j x t)) in
+      both_states (ltb x (length (states_of s))) (ltb t (length (states_of s))) (share_some 8 s.holders i j && (same_position (states_of s) i x t && all_agreed 8 s.holders (states_of s) i j x t))
+      ∙ ap (λ b. (ltb x (length (states_of s)) && ltb t (length (states_of s))) && b)
+      (guarded (share_some 8 s.holders i j) (shares h i j) _ _ (shares_is s i j)
+      (λ on. ap (λ p. p && all_agreed 8 s.holders (states_of s) i j x t) (positions_are on)
+      ∙ ap (λ a. eqb (h.position x i) (h.position t i) && a) all_agreed_is))
+      ∙ ap (λ n. (ltb x n && ltb t n) && rest) states_same
+      ∙ sym (access_is h i j x t)
+
+-- so both are one step rule
+pub access_same : (s : Sheet) (i j : ℕ) → accessible s.holders (states_of s) i j ≡ access (model_of s) i j
+access_same s i j = fun_ext (λ x. fun_ext (λ t. same_at s i j x t))
