@@ -1,16 +1,16 @@
 -- The bytes kept about each line, and the report that they give.
-use Rattle.std.proofs.Common.{◌≡◌, ℕ, zero, suc, ◌+◌, ◌*◌, ◌^◌, ◌<◌, ◌≤◌, Bool, true, false, cond, eqb, ltb, List, [], ◌∷◌, ◌++◌, length, get_or, Ok, Err, decimal, Result, sym, refl, ap, ◌∙◌, subst, inl, inr, arith, length-append}
+use Rattle.std.proofs.Common.{◌≡◌, ℕ, zero, suc, ◌+◌, ◌*◌, ◌<◌, ◌≤◌, Bool, true, false, cond, eqb, ltb, List, [], ◌∷◌, ◌++◌, length, get_or, Ok, Err, decimal, Result, sym, refl, ap, ◌∙◌, subst, inl, inr, arith, length-append}
 use mathlib.Core.Path.{fun_ext}
 use Rattle.std.proofs.lemmas.Fmt.{length-decimal-le}
 use Rattle.std.proofs.lemmas.Bool.{cases_eq, cond-true, cond-false, lt-ltb, le-ltb}
 use Rattle.texts.specs.declared.refusal.Refusal.{Refusal}
 use Rattle.texts.specs.declared.refusal.Refusal.TheVariants.{ShortBuffer, SetTooSmall}
 use Rattle.texts.specs.declared.writer.Writer.{Writer}
-use Rattle.texts.specs.Written.{Gave, fields_text, line_text, texts_below}
+use Rattle.texts.specs.Written.{Gave, line_text, texts_below}
 use Rattle.texts.proofs.Writing.{gave_as}
-use Rattle.semantics.specs.Chains.{rounds, globally_chain, until_chain}
+use Rattle.semantics.specs.Chains.{rounds}
 use Rattle.semantics.specs.Judging.{line_set, line_sets, line_rounds, rounds_of, verdict}
-use Rattle.semantics.specs.Sets.{Same, nothing, count, all}
+use Rattle.semantics.specs.Sets.{Same, count, all}
 use Rattle.semantics.specs.Sheets.{Sheet, Line, mark, negation, disjunction, next, globally, until, commitment, fulfilment, line_at}
 use Rattle.semantics.proofs.Counts.{count_le}
 use Rattle.semantics.proofs.Quantifiers.{least_le}

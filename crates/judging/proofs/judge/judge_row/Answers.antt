@@ -1,5 +1,4 @@
-use Rattle.std.proofs.Common.{◌≡◌, ◌+◌, ◌*◌, ◌<◌, ◌≤◌, length, ap, ◌∙◌, arith}
-use mathlib.Core.Path.{fun_ext}
+use Rattle.std.proofs.Common.{◌≤◌, length, ap, ◌∙◌, arith}
 use Rattle.semantics.specs.Judging.{line_set}
 use Rattle.semantics.specs.Sets.{Same}
 use Rattle.sheets.specs.Model.{model_of}
@@ -18,7 +17,7 @@ returns g c =
     record {
       set = is;
       rounds = c.evaluate-rounds.ensures.rounds ∙ row_rounds s k c.requires.within work c.args.row c.requires.kept c.requires.row;
-      bound = omega (arith, c.evaluate-rounds.ensures.bound, c.state-count.ensures.value, c.state-count.ensures.bound);
-      kept = kept_more s k c.requires.within work c.put-row.new.work (g.S.StateSet.holds c.evaluate-rounds.new.set) c.state-count.result c.bits-of.result
-          c.requires.kept is c.state-count.ensures.value c.bits-of.ensures (omega (arith, few, c.requires.sets, c.requires.within)) c.put-row.ensures.here c.put-row.ensures.others;
+      bound = omega (arith, c.evaluate-rounds.ensures.bound, c.state_count.ensures.value, c.state_count.ensures.bound);
+      kept = kept_more s k c.requires.within work c.put_row.new.work (g.S.StateSet.holds c.evaluate-rounds.new.set) c.state_count.result c.bits_of.result
+          c.requires.kept is c.state_count.ensures.value c.bits_of.ensures (omega (arith, few, c.requires.sets, c.requires.within)) c.put_row.ensures.here c.put_row.ensures.others;
     }

@@ -1,10 +1,10 @@
-use Rattle.std.proofs.Common.{◌≡◌, ◌+◌, ◌-◌, ◌<◌, ◌≤◌, length, get_or, take, ap, ◌∙◌, arith, rules}
+use Rattle.std.proofs.Common.{◌+◌, ◌-◌, ◌<◌, ◌≤◌, length, get_or, ap, ◌∙◌, arith, rules}
 use Rattle.std.proofs.lemmas.List.{get_or-take, length-take-le}
-use Rattle.sheets.specs.Sheets.{rows_of, no_row}
+use Rattle.sheets.specs.Sheets.{no_row}
 use Rattle.judging.proofs.judge.judge_rows.Goals as goal
 
-pub judge-row-rounds-requires : goal.judge-row-rounds-requires
-judge-row-rounds-requires g c =
+pub judge_row-rounds-requires : goal.judge_row-rounds-requires
+judge_row-rounds-requires g c =
     let rows = c.rows.result.now in
     let n = c.args.line + 1 - 0 in
     let le : n ≤ length rows = omega (arith, c.requires.line, ap length c.rows.ensures.value) in

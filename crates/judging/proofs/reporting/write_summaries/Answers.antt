@@ -6,4 +6,4 @@ pub loop-k-init : goal.loop-k-init
 loop-k-init c = texts_none (kept_text c.args.summaries.now) c.args.writer.now c.args.writer.now.counted
 
 pub loop-k-preserved : goal.loop-k-preserved
-loop-k-preserved c = texts_more (kept_text c.args.summaries.now) c.loop-k.k c.args.writer.now.counted c.loop-k.invariant c.write-summary.ensures
+loop-k-preserved c = texts_more (kept_text c.args.summaries.now) c.loop-k.k c.args.writer.now.counted c.loop-k.invariant c.write_summary.ensures
