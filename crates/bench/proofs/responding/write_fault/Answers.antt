@@ -8,5 +8,5 @@ returns c =
     let f = c.args.fault in
     record {
       text = search rules;
-      short = line_short 69 (code_of f.refusal) f.place.line f.place.field (omega (arith, c.code.ensures, c.from.ensures, c.from.type-inv)) (search rules) (search rules);
+      short = line_short 69 (code_of f.refusal) f.place.line f.place.field (omega (arith, c.code.ensures, c.from.ensures, c.from.type_inv)) (search rules) (search rules);
     }

@@ -7,7 +7,9 @@ returns g c =
     let d = c.judge.ensures in
     record {
       refuses = d.refuses;
+      answered = d.answered;
       unchanged = d.unchanged;
+      verdict = d.verdict;
       judged = d.judged;
-      truth = judged_truly c.args.self.now.sheet c.args.line (length c.args.work.now) g.S.StateSet.room (g.S.StateSet.holds c.judge.new.set) c.judge.result d.refuses d.judged;
+      truth = judged_truly c.args.self.now.sheet c.args.line (length c.args.work.now) g.S.StateSet.room (g.S.StateSet.holds c.judge.new.set) c.judge.result d.answered d.judged;
     }
