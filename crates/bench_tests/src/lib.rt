@@ -1,6 +1,6 @@
 //! Tests of the bench, each run on both kinds of set.
 #![tactic(auto)]
 
-mod sheets;
+mod examples;
 #[cfg(test)]
 mod tests;

@@ -1,4 +1,4 @@
-use crate::sheets::{INACCESSIBLE, SEVEN, chain};
+use crate::examples::{INACCESSIBLE, SEVEN, chain};
 use bench::Bench;
 use judging::judge::Judgement;
 use sets::{BitSet, SortedList, StateSet};

@@ -11,7 +11,7 @@ use Rattle.sheets.specs.declared.sheet.Sheet.{Sheet}
 use Rattle.sheets.specs.Holding.{held, share_some}
 use Rattle.sheets.specs.Model.{local_at, model_of}
 use Rattle.sheets.specs.Sheets.{states_of}
-use Rattle.sheets.proofs.Model.{held_within, shares_is}
+use Rattle.sheets.proofs.Model.{held_within, shares_any, shares_is}
 use Rattle.checker.specs.Access.{agreed, all_agreed, same_position, accessible}
 use Rattle.checker.proofs.AccessParts.{allows, access_is}
 
@@ -63,9 +63,8 @@ module _ (s : Sheet) (i j x t : ℕ) where
 
   -- a party that shares a channel is one of the sheet's
   sharing_party : share_some 8 s.holders i j ≡ true → i < s.header.parties
-  unfolding share_some
   sharing_party on =
-      let c = (any_says 8 (λ c. held s.holders c i && held s.holders c j)).0 on in
+      let c = (any_says 8 (λ c. held s.holders c i && held s.holders c j)).0 (sym (shares_any s.holders i j 8) ∙ on) in
       (held_within _ _ s.holders s.holders_exist c.0 i (and_parts _ _ c.2).0).1
 
   positions_are : share_some 8 s.holders i j ≡ true → same_position (states_of s) i x t ≡ eqb ((model_of s).position x i) ((model_of s).position t i)

@@ -6,7 +6,7 @@ use Rattle.search.specs.Stack.{contents, Behind}
 use Rattle.search.specs.declared.stack.Stack.{Stack}
 use Rattle.semantics.specs.Chains.{until_chain, settled}
 use Rattle.semantics.specs.Sets.{into}
-use Rattle.semantics.specs.Walks.{Walk, Reaching}
+use Rattle.semantics.specs.Walks.{WalkBy, ReachingBy}
 use Rattle.semantics.proofs.Walks.{walk_one, walk_push}
 use Rattle.fixpoints.specs.Rounds.{among, into_list, Ordered}
 use Rattle.fixpoints.specs.Witnesses.{In, PathTo}
@@ -15,7 +15,7 @@ use Rattle.fixpoints.proofs.Orders.{among_at}
 
 -- the path p has come from s to the state at a place of the list xs, through states of f at later places
 pub record Descending (n : ℕ) (steps : ℕ → ℕ → Bool) (f : ℕ → Bool) (xs : List ℕ) (s place : ℕ) (p : List ℕ) : Type 0 where
-  pub walk : Walk n steps s p
+  pub walk : WalkBy n steps s p
   pub here : (i : ℕ) → suc i ≡ length p → get_or p i 0 ≡ get_or xs place 0
   pub before : (i : ℕ) → suc i < length p → f (get_or p i 0) ≡ true
   pub above : (i : ℕ) → i < length p → (j : ℕ) × (place ≤ j) × (j < length xs) × (get_or xs j 0 ≡ get_or p i 0)
@@ -75,7 +75,7 @@ module _ (n : ℕ) (steps : ℕ → ℕ → Bool) (f h : ℕ → Bool) (xs : Lis
         fresh i k e = let a = m.above i k in once steps f h xs o b a.0 (omega (arith, a.1)) a.2 (sym (a.3 ∙ e))
 
     pub descending_last : (h (get_or xs place 0) || not (into_list steps (take place xs) (get_or xs place 0))) ≡ true →
-        Reaching n steps (In f) (In h) s (record { path = p; place = None })
+        ReachingBy n steps (In f) (In h) s (record { path = p; place = None })
     descending_last stop = record {
       no_place = refl;
       walk = m.walk;
@@ -94,7 +94,7 @@ until_below n steps f h (suc i) k e = elim (or_cases (until_chain n steps f h i 
 -- the path in a buffer that a stack w was laid over
 pub path_found : (n : ℕ) (steps : ℕ → ℕ → Bool) (f h : ℕ → Bool) (s : ℕ) (old : List ℕ) (v w : Stack ℕ) (k : ℕ) → settled n (until_chain n steps f h) s ≡ true →
     v.slots.now ≡ old → Behind v w → k ≡ length (contents w) → take k w.slots.now ≡ contents w →
-    Reaching n steps (In f) (In h) s (record { path = contents w; place = None }) → PathTo n steps f h s old w.slots.now (Some k)
+    ReachingBy n steps (In f) (In h) s (record { path = contents w; place = None }) → PathTo n steps f h s old w.slots.now (Some k)
 path_found n steps f h s old v w k on first b len front r =
-    let P : List ℕ → Type 0 = λ p. Reaching n steps (In f) (In h) s (record { path = p; place = None }) in
+    let P : List ℕ → Type 0 = λ p. ReachingBy n steps (In f) (In h) s (record { path = p; place = None }) in
     (on, front_of old v w k first b len, subst P (sym front) r)

@@ -8,7 +8,7 @@ use Rattle.search.specs.declared.stack.Stack.{Stack}
 use Rattle.search.proofs.FirstSteps.{first_none}
 use Rattle.semantics.specs.Chains.{globally_chain, settled}
 use Rattle.semantics.specs.Sets.{outside}
-use Rattle.semantics.specs.Walks.{Walk, Looping}
+use Rattle.semantics.specs.Walks.{WalkBy, LoopingBy}
 use Rattle.semantics.proofs.Counts.{count_le}
 use Rattle.semantics.proofs.Walks.{walk_one, walk_push}
 use Rattle.fixpoints.specs.Rounds.{among, lacks}
@@ -34,7 +34,7 @@ module _ (n : ℕ) (steps : ℕ → ℕ → Bool) (z : ℕ → Bool) where
 
   -- the path p has come from s to t inside the set
   pub record Following (s t : ℕ) (p : List ℕ) : Type 0 where
-    pub walk : Walk n steps s p
+    pub walk : WalkBy n steps s p
     pub here : (i : ℕ) → suc i ≡ length p → get_or p i 0 ≡ t
     pub stays : (i : ℕ) → i < length p → z (get_or p i 0) ≡ true
     pub few : length p + lacks n (among p) ≤ n
@@ -68,9 +68,9 @@ module _ (n : ℕ) (steps : ℕ → ℕ → Bool) (z : ℕ → Bool) where
 -- the path in a buffer that a stack w was laid over
 pub loop_found : (n : ℕ) (steps : ℕ → ℕ → Bool) (f z : ℕ → Bool) (s : ℕ) (old : List ℕ) (v w : Stack ℕ) (k place : ℕ) → settled n (globally_chain n steps f) s ≡ true →
     Inside n steps f z → v.slots.now ≡ old → Behind v w → k ≡ length (contents w) → take k w.slots.now ≡ contents w →
-    Looping n steps (In z) s (record { path = contents w; place = Some place }) → PathBack n steps f s old w.slots.now (Some (record { length = k; place = place }))
+    LoopingBy n steps (In z) s (record { path = contents w; place = Some place }) → PathBack n steps f s old w.slots.now (Some (record { length = k; place = place }))
 loop_found n steps f z s old v w k place on inside first b len front r =
-    let P : List ℕ → Type 0 = λ p. Looping n steps (In f) s (record { path = p; place = Some place }) in (
+    let P : List ℕ → Type 0 = λ p. LoopingBy n steps (In f) s (record { path = p; place = Some place }) in (
       on,
       front_of old v w k first b len,
       subst P (sym front) (record {

@@ -2,7 +2,7 @@ ghost use Rattle.std.specs.Prelude.{◌≡◌, ℕ, ◌<◌, ◌≤◌, Bool, tr
 ghost use Rattle.search.specs.Stack.{contents, capacity, Behind};
 ghost use Rattle.semantics.specs.Chains.{until_chain, settled};
 ghost use Rattle.semantics.specs.Sets.{Same};
-ghost use Rattle.semantics.specs.Walks.{Reaching};
+ghost use Rattle.semantics.specs.Walks.{ReachingBy};
 ghost use Rattle.fixpoints.specs.Rounds.{among, into_list, Ordered};
 ghost use Rattle.fixpoints.specs.Searches.{enough};
 ghost use Rattle.fixpoints.specs.Witnesses.{In, PathTo};
@@ -53,7 +53,7 @@ fn descend<R: StepRule, H: StateSet>(
     requires empty { contents walk.old ≡ [] }
     requires room { length order.now ≤ capacity walk.old }
     ensures behind { Behind walk.old walk.new }
-    ensures path { (n : ℕ) (f : ℕ → Bool) → ((k : ℕ) → among order.now k ≡ true → k < n) → Ordered (R.steps rule.now) f (H.holds goal.now) order.now → Reaching n (R.steps rule.now) (In f) (In (H.holds goal.now)) (slice_index order.now start) (record { path = contents walk.new; place = None }) }
+    ensures path { (n : ℕ) (f : ℕ → Bool) → ((k : ℕ) → among order.now k ≡ true → k < n) → Ordered (R.steps rule.now) f (H.holds goal.now) order.now → ReachingBy n (R.steps rule.now) (In f) (In (H.holds goal.now)) (slice_index order.now start) (record { path = contents walk.new; place = None }) }
 {
     let mut place = start;
     let _ = walk.push(order[place]);

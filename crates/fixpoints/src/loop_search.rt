@@ -2,7 +2,7 @@ ghost use Rattle.std.specs.Prelude.{◌≡◌, ℕ, ◌<◌, ◌≤◌, true, �
 ghost use Rattle.search.specs.Stack.{contents, capacity, Behind};
 ghost use Rattle.semantics.specs.Chains.{globally_chain, settled};
 ghost use Rattle.semantics.specs.Sets.{Same};
-ghost use Rattle.semantics.specs.Walks.{Looping};
+ghost use Rattle.semantics.specs.Walks.{LoopingBy};
 ghost use Rattle.fixpoints.specs.Searches.{enough, Inside};
 ghost use Rattle.fixpoints.specs.Witnesses.{In, PathBack};
 
@@ -37,7 +37,7 @@ fn follow<R: StepRule, S: StateSet>(
     requires room { states ≤ capacity walk.old }
     ensures behind { Behind walk.old walk.new }
     ensures some { 0 < length (contents walk.new) }
-    ensures path { Looping states (R.steps rule.now) (In (S.holds set.now)) start (record { path = contents walk.new; place = Some result }) }
+    ensures path { LoopingBy states (R.steps rule.now) (In (S.holds set.now)) start (record { path = contents walk.new; place = Some result }) }
 {
     let mut last = start;
     'walk: loop {

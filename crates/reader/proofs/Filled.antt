@@ -1,14 +1,14 @@
 -- What the tables have after each line.
-use Rattle.std.proofs.Common.{◌≡◌, ℕ, ◌<◌, Bool, true, false, cond, eqb, List, [], ◌∷◌, ◌++◌, length, get_or, set, sym, ap, ◌∙◌, inl, inr, arith}
+use Rattle.std.proofs.Common.{◌≡◌, ℕ, ◌<◌, Bool, true, false, cond, eqb, ltb, List, [], ◌∷◌, ◌++◌, length, get_or, set, sym, ap, ◌∙◌, inl, inr, arith}
 use Rattle.std.proofs.lemmas.List.{get_or_read, get_or_push, get_or_append_left, get_or_past, length_push}
-use Rattle.std.proofs.lemmas.Bool.{cases_lt, cases_eq, or_cases, eqb-true}
+use Rattle.std.proofs.lemmas.Bool.{and_parts, and_from, cases_lt, cases_eq, or_cases, eqb-true, lt-ltb}
 use Rattle.semantics.specs.Sets.{Same, has_step}
-use Rattle.semantics.proofs.Quantifiers.{all_says}
+use Rattle.semantics.proofs.Quantifiers.{any_says, all_says}
 use Rattle.sets.specs.Member.{plus}
 use Rattle.sheets.specs.declared.parts.Local.{Local}
 use Rattle.sheets.specs.declared.parts.State.{State}
 use Rattle.sheets.specs.Fitting.{local_fits, state_fits, states_fit}
-use Rattle.sheets.specs.Moves.{no_state, move_within, all_move}
+use Rattle.sheets.specs.Moves.{no_state, move_in, move_within, all_move}
 use Rattle.sheets.proofs.Filling.{at_set, local_set, moves_set, fit_set}
 use Rattle.sheets.proofs.Validity.{fits_at}
 use Rattle.reader.specs.Reading.{Unmoved}
@@ -48,6 +48,13 @@ put_adds true new old x e t ne on = elim (or_cases (eqb t x) (old t) (sym (e t) 
 ]
 put_adds false new old x e t ne on = sym (e t) ∙ on
 
-pub all_move_law : (ss : List State) → ((k : ℕ) → k < length ss → has_step (length ss) (move_within ss) k ≡ true) → all_move ss ≡ true
+-- a move to a state of the table stays within the table
+step_within : (ss : List State) (k : ℕ) → has_step (length ss) (move_in ss) k ≡ true → has_step (length ss) (move_within ss) k ≡ true
+step_within ss k e =
+    let x = (any_says (length ss) (move_in ss k)).0 e in
+    let a = and_parts (ltb k (length ss)) _ x.2 in
+    (any_says (length ss) (move_within ss k)).1 (x.0, x.1, and_from _ _ (and_from _ _ a.0 (lt-ltb x.0 (length ss) x.1)) a.1)
+
+pub all_move_law : (ss : List State) → ((k : ℕ) → k < length ss → has_step (length ss) (move_in ss) k ≡ true) → all_move ss ≡ true
 unfolding all_move
-all_move_law ss each = (all_says (length ss) (has_step (length ss) (move_within ss))).1 each
+all_move_law ss each = (all_says (length ss) (has_step (length ss) (move_within ss))).1 (λ k l. step_within ss k (each k l))

@@ -11,16 +11,16 @@ use Rattle.sheets.specs.declared.parts.State.{State}
 use Rattle.sheets.specs.declared.tables.Tables.{Tables}
 use Rattle.sheets.specs.Fitting.{states_fit, any_start}
 use Rattle.sheets.specs.Holding.{holders_within}
-use Rattle.sheets.specs.Moves.{no_state, move_within, all_move, move_count}
+use Rattle.sheets.specs.Moves.{no_state, move_in, all_move, move_count}
 use Rattle.sheets.specs.Rows.{sound_rows}
 use Rattle.reader.specs.Readers.{Bounded}
 
 -- the checks of the states as a whole: some start, then a move from every state, or the lowest state without one
 abbrev pub WholeStates : List State → Result Unit Fault → Type 0
-WholeStates ss (Ok u) = (any_start ss ≡ true) × ((s : ℕ) → s < length ss → has_step (length ss) (move_within ss) s ≡ true)
+WholeStates ss (Ok u) = (any_start ss ≡ true) × ((s : ℕ) → s < length ss → has_step (length ss) (move_in ss) s ≡ true)
 WholeStates ss (Err f) =
     cond (any_start ss)
-    ((s : ℕ) × (f ≡ fault_at NoMove (at 0 s)) × (s < length ss) × (has_step (length ss) (move_within ss) s ≡ false) × ((u : ℕ) → u < s → has_step (length ss) (move_within ss) u ≡ true))
+    ((s : ℕ) × (f ≡ fault_at NoMove (at 0 s)) × (s < length ss) × (has_step (length ss) (move_in ss) s ≡ false) × ((u : ℕ) → u < s → has_step (length ss) (move_in ss) u ≡ true))
     (f ≡ fault_at NoStart (at 0 0))
 
 -- no state has a move yet

@@ -11,7 +11,7 @@ use crate::row_reader::row_line;
 use search::lowest_without_step;
 use sets::StateSet;
 use sheets::holders::Holders;
-use sheets::moves::MovesWithin;
+use sheets::moves::Moves;
 use sheets::parts::{Header, State};
 use sheets::sheet::Sheet;
 use sheets::tables::Tables;
@@ -185,7 +185,7 @@ fn check_states(states: &[State]) -> Result<(), Fault>
             place: Place { line: 0, field: 0 },
         });
     }
-    match lowest_without_step(&MovesWithin { states }, states.len()) {
+    match lowest_without_step(&Moves { states }, states.len()) {
         Some(state) => Err(Fault {
             refusal: Refusal::NoMove,
             place: Place {

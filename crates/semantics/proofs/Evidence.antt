@@ -10,7 +10,7 @@ use Rattle.semantics.specs.Sheets.{Sheet}
 use Rattle.semantics.specs.Validity.{Valid}
 use Rattle.semantics.specs.Formulas.{Formula, atom, neg, or, EX, EG, EU, committed, fulfilled, Holds}
 use Rattle.semantics.specs.Evidence.{Lowest, Evidence, Due, EvidenceWhereDue}
-use Rattle.semantics.specs.Walks.{Shown, alone, Reaching, Looping}
+use Rattle.semantics.specs.Walks.{Shown, alone, ReachingBy, LoopingBy}
 use Rattle.semantics.proofs.Quantifiers.{any_says, least_at, least_before}
 use Rattle.semantics.proofs.Paths.{endless, next_is, until_is}
 use Rattle.semantics.proofs.Searches.{means_at, globally_means, globally_inside, globally_closed, until_means}
@@ -62,7 +62,7 @@ module _ (h : Sheet) (v : Valid h) where
           (cases_Bool ((set_of_law h v f).0 t))))
 
   show_until : (f g : Formula) (s : ℕ) → s < h.states → Until h.states L (Holds h f) (Holds h g) s →
-      (e : Shown) × (Reaching h.states h.moves (Holds h f) (Holds h g) s e)
+      (e : Shown) × (ReachingBy h.states h.moves (Holds h f) (Holds h g) s e)
   unfolding settled
   show_until f g s l u =
       let a = set_of_law h v f in
@@ -79,7 +79,7 @@ module _ (h : Sheet) (v : Valid h) where
         },
       )
 
-  shown_until : (P Q : ℕ → Type 0) (s : ℕ) (e : Shown) → Reaching h.states h.moves P Q s e → Until h.states L P Q s
+  shown_until : (P Q : ℕ → Type 0) (s : ℕ) (e : Shown) → ReachingBy h.states h.moves P Q s e → Until h.states L P Q s
   shown_until P Q s e r =
       let k = length e.path - 1 in
       (until_is h.states L total P Q s).0 (
@@ -93,7 +93,7 @@ module _ (h : Sheet) (v : Valid h) where
         (r.last k (omega (arith, r.walk.nonempty)), λ i m. r.before i (omega arith)),
       )
 
-  show_globally : (f : Formula) (s : ℕ) → s < h.states → Globally h.states L (Holds h f) s → (e : Shown) × (Looping h.states h.moves (Holds h f) s e)
+  show_globally : (f : Formula) (s : ℕ) → s < h.states → Globally h.states L (Holds h f) s → (e : Shown) × (LoopingBy h.states h.moves (Holds h f) s e)
   show_globally f s l u =
       let a = set_of_law h v f in
       let z = settled h.states (globally_chain h.states h.moves a.0) in
@@ -110,7 +110,7 @@ module _ (h : Sheet) (v : Valid h) where
         },
       )
 
-  shown_globally : (P : ℕ → Type 0) (s : ℕ) (e : Shown) → s < h.states → Looping h.states h.moves P s e → Globally h.states L P s
+  shown_globally : (P : ℕ → Type 0) (s : ℕ) (e : Shown) → s < h.states → LoopingBy h.states h.moves P s e → Globally h.states L P s
   shown_globally P s e l r =
       let x = endless h.states L On onward s l (0, r.walk.nonempty, r.walk.begins) in
       (x.0, x.1, λ k. let y = x.2 k in subst P y.2 (r.throughout y.0 y.1))

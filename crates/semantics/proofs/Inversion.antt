@@ -4,7 +4,7 @@ use lib.ListN.{length-map}
 use Rattle.std.specs.List.{AllByRecursion as All}
 use Rattle.std.proofs.lemmas.Bool.{cases_Bool, cond-true, cond-false, eqb-true, leb-false, ltb-false, false≢true}
 use Rattle.semantics.specs.Numbers.{number_of}
-use Rattle.semantics.specs.LineReading.{Kind, Letter, is_byte, letter_in, number_at, in_range, numbers_at, is_earlier, earlier_at, numbered_line, counted_line, lettered_line}
+use Rattle.semantics.specs.LineReading.{Kind, Letter, is_byte, letter_in, number_at, in_range, numbers_in, is_earlier, earlier_at, numbered_line, counted_line, lettered_line}
 use Rattle.semantics.specs.Sheets.{Sheet}
 use Rattle.semantics.proofs.Decimals.{only_decimal}
 use Rattle.semantics.proofs.NumberFields.{ok_same, err_ok, then_ok, passed, held_back, number_back, Ranged, numbers_back}
@@ -47,7 +47,7 @@ module _ (h : Sheet) (acts due n : ℕ) where
   numbered_back f g b rest l x len e =
       let a = then_ok (number_at n 2 (number_of g)) _ x e in
       let d = only_decimal g a.0 (number_back n 2 (number_of g) a.0 a.1) in
-      let c = then_ok (numbers_at n 4 (map (in_range h) l.kinds) rest) _ x a.2 in
+      let c = then_ok (numbers_in n 4 (map (in_range h) l.kinds) rest) _ x a.2 in
       let r = numbers_back n (map (in_range h) l.kinds) rest 4 c.0 (omega (arith, length-map l.kinds (in_range h))) c.1 in
       let o = passed (eqb a.0 due) _ _ x c.2 in
       let w = then_ok (earlier_at acts due n 4 l.kinds c.0) _ x o.1 in

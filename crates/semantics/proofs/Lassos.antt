@@ -3,7 +3,7 @@ use Rattle.std.proofs.Common.{◌≡◌, ℕ, zero, suc, ◌-◌, ◌<◌, ◌�
 use Rattle.std.proofs.lemmas.List.{get_or_append_left, get_or_push, length_push}
 use Rattle.std.proofs.lemmas.Bool.{and_parts, and_from, and_right, cases_Bool, cases_eq, both_ways, eqb-true, eq-eqb, not-true, not_from_false, not_from_true}
 use Rattle.semantics.specs.Sets.{any, count}
-use Rattle.semantics.specs.Walks.{Walk}
+use Rattle.semantics.specs.Walks.{WalkBy}
 use Rattle.semantics.proofs.Quantifiers.{any_says}
 use Rattle.semantics.proofs.Counts.{count_le, count_falls}
 use Rattle.semantics.proofs.Walks.{walk_one, walk_push}
@@ -25,7 +25,7 @@ module _ (n : ℕ) (steps : ℕ → ℕ → Bool) where
     fresh p t = z t && not (on_path p t)
 
     pub record Lasso (s : ℕ) (p : List ℕ) (k : ℕ) : Type 0 where
-      pub walk : Walk n steps s p
+      pub walk : WalkBy n steps s p
       pub stays : (i : ℕ) → i < length p → z (get_or p i 0) ≡ true
       pub within : k < length p
       pub returns : (i : ℕ) → suc i ≡ length p → steps (get_or p i 0) (get_or p k 0) ≡ true
@@ -44,7 +44,7 @@ module _ (n : ℕ) (steps : ℕ → ℕ → Bool) where
             (λ off. off) (cases_Bool (on_path p k))))
 
     record Trail (s : ℕ) (p : List ℕ) : Type 0 where
-      walk : Walk n steps s p
+      walk : WalkBy n steps s p
       stays : (i : ℕ) → i < length p → z (get_or p i 0) ≡ true
 
     -- the path has come back, or goes on to a fresh state

@@ -3,7 +3,7 @@ use Rattle.std.proofs.Common.{◌≡◌, ℕ, ◌+◌, ◌<◌, ◌≤◌, true,
 use lib.ListN.{length-map}
 use Rattle.std.proofs.lemmas.Bool.{cond-true, cond-false, eq-eqb, lt-leb, le-ltb}
 use Rattle.semantics.specs.Faults.{refused_at, and_then}
-use Rattle.semantics.specs.LineReading.{Kind, Letter, letter_in, number_at, in_range, numbers_at, is_earlier, earlier_at, counted_line, lettered_line}
+use Rattle.semantics.specs.LineReading.{Kind, Letter, letter_in, number_at, in_range, numbers_in, is_earlier, earlier_at, counted_line, lettered_line}
 use Rattle.semantics.specs.Sheets.{Sheet}
 use Rattle.semantics.specs.Written.{lettered_text}
 use Rattle.semantics.proofs.Decimals.{reads_decimal}
@@ -48,7 +48,7 @@ module _ (h : Sheet) (acts due : ℕ) where
         ∙ ap (counted_line h acts due n fs) found
         ∙ cond-true (eqb (length fs) (3 + length l.kinds)) _ _ (eq-eqb _ _ (omega (arith, ranged_length (map (in_range h) l.kinds) xs (sound_ranged l.kinds xs s), length-map l.kinds (in_range h))))
         ∙ ap (λ o. and_then (number_at n 2 o) (λ k.
-        and_then (numbers_at n 4 (map (in_range h) l.kinds) (map decimal xs)) (λ xs.
+        and_then (numbers_in n 4 (map (in_range h) l.kinds) (map decimal xs)) (λ xs.
         cond (eqb k due) (and_then (earlier_at acts due n 4 l.kinds xs) (λ _. Ok (l.makes xs))) (refused_at 11 n 2)))) (reads_decimal due (omega arith))
         ∙ ap (λ r. and_then r (λ xs. cond (eqb due due) (and_then (earlier_at acts due n 4 l.kinds xs) (λ _. Ok (l.makes xs))) (refused_at 11 n 2)))
         (numbers_read n (map (in_range h) l.kinds) xs 4 (sound_ranged l.kinds xs s) (small_fit xs (sound_small l.kinds xs s)))

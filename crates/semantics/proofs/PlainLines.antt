@@ -3,7 +3,7 @@ use Rattle.std.proofs.Common.{◌≡◌, ℕ, ◌+◌, Bool, true, cond, eqb, Li
 use Rattle.std.proofs.lemmas.Bool.{cond-true, eqb-true, eq-eqb}
 use Rattle.semantics.specs.Cuts.{fields_of}
 use Rattle.semantics.specs.Faults.{Fault, refused_at, and_then}
-use Rattle.semantics.specs.LineReading.{numbers_at}
+use Rattle.semantics.specs.LineReading.{numbers_in}
 use Rattle.semantics.specs.SheetReading.{Reading, leads, due_in, plain_line}
 use Rattle.semantics.specs.Written.{line_text}
 use Rattle.semantics.proofs.Inversion.{byte_back}
@@ -17,7 +17,7 @@ module _ (ranges : List (ℕ → Bool)) (inPlace : List ℕ → Bool) (b : ℕ) 
   row_back n [] xs q e = let z : ◌≡◌ {A = ℕ} 0 1 = cc in absurd (omega arith)
   row_back n (f ∷ fs) xs q e =
       let c = passed (eqb (length (f ∷ fs)) (1 + length ranges)) _ _ xs e in
-      let a = then_ok (numbers_at n 2 ranges fs) _ xs c.1 in
+      let a = then_ok (numbers_in n 2 ranges fs) _ xs c.1 in
       let d = passed (inPlace a.0) _ _ xs a.2 in
       let same = ok_same a.0 xs d.1 in
       let s = numbers_back n ranges fs 2 a.0 (omega (arith, eqb-true _ _ c.0)) a.1 in

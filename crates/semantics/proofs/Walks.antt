@@ -4,11 +4,11 @@ use Rattle.std.proofs.lemmas.List.{get_or_append_left, get_or_push, length_push}
 use Rattle.std.proofs.lemmas.Bool.{and_parts, or_cases, or_left, cases_Bool, cases_eq, both_ways, ltb-true}
 use Rattle.semantics.specs.Sets.{into}
 use Rattle.semantics.specs.Chains.{until_chain}
-use Rattle.semantics.specs.Walks.{Walk}
+use Rattle.semantics.specs.Walks.{WalkBy}
 use Rattle.semantics.proofs.Quantifiers.{any_says}
 
 module _ (n : ℕ) (steps : ℕ → ℕ → Bool) where
-  pub walk_one : (s : ℕ) → s < n → Walk n steps s (s ∷ [])
+  pub walk_one : (s : ℕ) → s < n → WalkBy n steps s (s ∷ [])
   walk_one s l = record {
     nonempty = omega arith;
     begins = refl;
@@ -18,7 +18,7 @@ module _ (n : ℕ) (steps : ℕ → ℕ → Bool) where
   }
 
   -- a state that is not on the path, put before it
-  walk_cons : (s t : ℕ) (p : List ℕ) → s < n → steps s t ≡ true → ((i : ℕ) → i < length p → get_or p i 0 ≡ s → ⊥) → Walk n steps t p → Walk n steps s (s ∷ p)
+  walk_cons : (s t : ℕ) (p : List ℕ) → s < n → steps s t ≡ true → ((i : ℕ) → i < length p → get_or p i 0 ≡ s → ⊥) → WalkBy n steps t p → WalkBy n steps s (s ∷ p)
   walk_cons s t p l e new w = record {
     nonempty = omega arith;
     begins = refl;
@@ -34,7 +34,7 @@ module _ (n : ℕ) (steps : ℕ → ℕ → Bool) where
 
   -- a state that is not on the path, put behind it
   pub walk_push : (s t : ℕ) (p : List ℕ) → t < n → ((i : ℕ) → suc i ≡ length p → steps (get_or p i 0) t ≡ true) →
-      ((i : ℕ) → i < length p → get_or p i 0 ≡ t → ⊥) → Walk n steps s p → Walk n steps s (p ++ t ∷ [])
+      ((i : ℕ) → i < length p → get_or p i 0 ≡ t → ⊥) → WalkBy n steps s p → WalkBy n steps s (p ++ t ∷ [])
   walk_push s t p l e new w = record {
     nonempty = omega (arith, length_push p t);
     begins = old 0 w.nonempty ∙ w.begins;
@@ -60,7 +60,7 @@ module _ (n : ℕ) (steps : ℕ → ℕ → Bool) where
     Z = until_chain n steps a b
 
     pub record Descent (k s : ℕ) (p : List ℕ) : Type 0 where
-      pub walk : Walk n steps s p
+      pub walk : WalkBy n steps s p
       pub low : (i : ℕ) → i < length p → Z k (get_or p i 0) ≡ true
       pub before : (i : ℕ) → suc i < length p → a (get_or p i 0) ≡ true
       pub last : (i : ℕ) → suc i ≡ length p → b (get_or p i 0) ≡ true

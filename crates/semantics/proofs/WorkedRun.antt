@@ -10,11 +10,11 @@ use Rattle.semantics.specs.Actions.{action_formulas, admitted}
 use Rattle.semantics.specs.Chains.{rounds, settled}
 use Rattle.semantics.specs.Edits.{join_move, cut_move, edited}
 use Rattle.semantics.specs.Evidence.{Evidence}
-use Rattle.semantics.specs.Walks.{alone, Walk}
+use Rattle.semantics.specs.Walks.{alone, WalkBy}
 use Rattle.semantics.specs.Formulas.{Holds, tree_at, trees}
 use Rattle.semantics.specs.Judging.{line_sets, line_set}
 use Rattle.semantics.specs.Law.{Lawful}
-use Rattle.semantics.specs.LineReading.{numbers_at, earlier_at}
+use Rattle.semantics.specs.LineReading.{numbers_in, earlier_at}
 use Rattle.semantics.specs.QueryReading.{lines_read, query_read}
 use Rattle.semantics.specs.QueryText.{query_text}
 use Rattle.semantics.specs.Reduction.{reduction}
@@ -66,7 +66,7 @@ differ7 zero (suc zero) l k e = omega arith
 differ7 (suc i) (suc zero) l k e = omega arith
 differ7 i (suc (suc j)) l k e = omega arith
 
-walk7 : Walk sheet7.states sheet7.moves 1 path7
+walk7 : WalkBy sheet7.states sheet7.moves 1 path7
 unfolding sheet7
 walk7 = record {
   nonempty = lit< tt;
@@ -104,7 +104,7 @@ query_set_is =
     (1 ∷ 2 ∷ []) (lit< tt, (lit< tt, tt)) refl
 
 pub run_lawful : Lawful (Some book7) nothing calls7 answers7
-unfolding digits access line_sets settled rounds query_text reduction query_read lines_read numbers_at earlier_at query_sets action_formulas admitted trees Evidence sheet7
+unfolding digits access line_sets settled rounds query_text reduction query_read lines_read numbers_in earlier_at query_sets action_formulas admitted trees Evidence sheet7
 run_lawful = (
   (refl, refl),
   (

@@ -1,14 +1,26 @@
 -- What shows that a formula holds at a state, or that a commitment does not.
-use Rattle.std.specs.Prelude.{◌≡◌, ℕ, ◌<◌, true, ◌↔◌}
+use Rattle.std.specs.Prelude.{◌≡◌, ℕ, ◌<◌, true, List, ◌↔◌}
 use Rattle.semantics.specs.Access.{commitment_access, fulfilment_access}
 use Rattle.semantics.specs.Formulas.{Formula, atom, neg, or, EX, EG, EU, committed, fulfilled, Holds, Committed}
 use Rattle.semantics.specs.Sheets.{Sheet}
 use Rattle.semantics.specs.Validity.{Valid}
-use Rattle.semantics.specs.Walks.{Shown, alone, Reaching, Looping}
+use Rattle.semantics.specs.Walks.{Shown, alone, WalkBy, ReachingBy, LoopingBy}
 
 -- t is the lowest state below n with P
 abbrev pub Lowest : ℕ → (ℕ → Type 0) → ℕ → Type 0
 Lowest n P t = (t < n) × (P t) × ((u : ℕ) → u < t → P u → ⊥)
+
+-- a path of moves that begins with s, on which no state occurs twice
+abbrev pub Walk : Sheet → ℕ → List ℕ → Type 0
+Walk h = WalkBy h.states h.moves
+
+-- P at every state of the path but the last, and Q at the last
+abbrev pub Reaching : Sheet → (ℕ → Type 0) → (ℕ → Type 0) → ℕ → Shown → Type 0
+Reaching h = ReachingBy h.states h.moves
+
+-- P at every state of the path, whose last state has a move to the state at the place
+abbrev pub Looping : Sheet → (ℕ → Type 0) → ℕ → Shown → Type 0
+Looping h = LoopingBy h.states h.moves
 
 -- e is evidence on the formula at s
 unfoldable pub Evidence : Sheet → Formula → ℕ → Shown → Type 0
@@ -16,8 +28,8 @@ Evidence h (atom m) s e = ⊥
 Evidence h (neg f) s e = ⊥
 Evidence h (or f g) s e = ⊥
 Evidence h (EX f) s e = (t : ℕ) × (e ≡ alone t) × (Lowest h.states (λ u. (h.moves s u ≡ true) × (Holds h f u)) t)
-Evidence h (EG f) s e = Looping h.states h.moves (Holds h f) s e
-Evidence h (EU f g) s e = Reaching h.states h.moves (Holds h f) (Holds h g) s e
+Evidence h (EG f) s e = Looping h (Holds h f) s e
+Evidence h (EU f g) s e = Reaching h (Holds h f) (Holds h g) s e
 Evidence h (committed i j f) s e =
     (t : ℕ) × (e ≡ alone t) × (Lowest h.states (λ u. (commitment_access h i j s u ≡ true) × (Holds h f u → ⊥)) t)
 Evidence h (fulfilled i j f) s e =

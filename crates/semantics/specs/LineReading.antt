@@ -50,11 +50,15 @@ in_range h an_action x = true
 in_range h an_operand x = true
 
 -- the numbers from field f on, each with a test of its range: 3, then 10, at each field from the left
-unfoldable pub numbers_at : ℕ → ℕ → List (ℕ → Bool) → List (List ℕ) → Result (List ℕ) Fault
-numbers_at n f [] fs = Ok []
-numbers_at n f (r ∷ rs) fs =
+unfoldable pub numbers_in : ℕ → ℕ → List (ℕ → Bool) → List (List ℕ) → Result (List ℕ) Fault
+numbers_in n f [] fs = Ok []
+numbers_in n f (r ∷ rs) fs =
     and_then (number_at n f (number_of (slice_index_or fs 0 []))) (λ x.
-    cond (r x) (and_then (numbers_at n (f + 1) rs (drop 1 fs)) (λ xs. Ok (x ∷ xs))) (refused_at 10 n f))
+    cond (r x) (and_then (numbers_in n (f + 1) rs (drop 1 fs)) (λ xs. Ok (x ∷ xs))) (refused_at 10 n f))
+
+-- the same, where each number names what its kind says
+abbrev pub numbers_at : Sheet → ℕ → ℕ → List Kind → List (List ℕ) → Result (List ℕ) Fault
+numbers_at h n f ks fs = numbers_in n f (map (in_range h) ks) fs
 
 -- a number names an earlier line: an action below the number of A lines, an operand below the line's own number
 abbrev pub is_earlier : ℕ → ℕ → Kind → ℕ → Bool
@@ -72,7 +76,7 @@ earlier_at acts due n f (k ∷ ks) xs = cond (is_earlier acts due k (slice_index
 abbrev pub numbered_line : {X : Type 0} → Sheet → ℕ → ℕ → ℕ → List (List ℕ) → Letter X → Result X Fault
 numbered_line h acts due n fs l =
     and_then (number_at n 2 (number_of (slice_index_or fs 1 []))) (λ k.
-    and_then (numbers_at n 4 (map (in_range h) l.kinds) (drop 3 fs)) (λ xs.
+    and_then (numbers_at h n 4 l.kinds (drop 3 fs)) (λ xs.
     cond (k == due) (and_then (earlier_at acts due n 4 l.kinds xs) (λ _. Ok (l.makes xs))) (refused_at 11 n 2)))
 
 -- the count of fields that a letter asks for: 5

@@ -3,7 +3,7 @@ use Rattle.std.specs.Prelude.{ℕ, zero, suc, ◌+◌, ◌^◌, Bool, true, fals
 use Rattle.semantics.specs.Cuts.{lines_of, fields_of, count_of}
 use Rattle.semantics.specs.Edits.{with_moves}
 use Rattle.semantics.specs.Faults.{Fault, refused_at, and_then}
-use Rattle.semantics.specs.LineReading.{Letter, letter, a_party, a_mark, an_operand, at, is_byte, numbers_at, lettered_line, finished}
+use Rattle.semantics.specs.LineReading.{Letter, letter, a_party, a_mark, an_operand, at, is_byte, numbers_in, lettered_line, finished}
 use Rattle.semantics.specs.Sets.{any, count, least, has_step}
 use Rattle.semantics.specs.Sheets.{Sheet, Line, mark, negation, disjunction, next, globally, until, commitment, fulfilment, shares}
 use Rattle.semantics.specs.Validity.{between}
@@ -50,7 +50,7 @@ while_in b f x n (l ∷ ls) =
 abbrev pub plain_line : List (ℕ → Bool) → (List ℕ → Bool) → LineReader (List ℕ)
 plain_line ranges inPlace n fs =
     cond (length fs == 1 + length ranges)
-    (and_then (numbers_at n 2 ranges (drop 1 fs)) (λ xs. cond (inPlace xs) (Ok xs) (refused_at 11 n 2)))
+    (and_then (numbers_in n 2 ranges (drop 1 fs)) (λ xs. cond (inPlace xs) (Ok xs) (refused_at 11 n 2)))
     (refused_at 5 n 0)
 
 -- a number is below m

@@ -11,7 +11,7 @@ abbrev pub alone : ℕ → Shown
 alone t = record { path = t ∷ []; place = None }
 
 -- a path that begins with s, on which no state occurs twice
-pub record Walk (n : ℕ) (steps : ℕ → ℕ → Bool) (s : ℕ) (p : List ℕ) : Type 0 where
+pub record WalkBy (n : ℕ) (steps : ℕ → ℕ → Bool) (s : ℕ) (p : List ℕ) : Type 0 where
   pub nonempty : 0 < length p
   pub begins : slice_index_or p 0 0 ≡ s
   pub inside : (i : ℕ) → i < length p → slice_index p i < n
@@ -19,17 +19,17 @@ pub record Walk (n : ℕ) (steps : ℕ → ℕ → Bool) (s : ℕ) (p : List ℕ
   pub once : (i j : ℕ) → i < j → j < length p → slice_index p i ≢ slice_index p j
 
 -- P at every state of the path but the last, and Q at the last
-pub record Reaching (n : ℕ) (steps : ℕ → ℕ → Bool) (P Q : ℕ → Type 0) (s : ℕ) (e : Shown) : Type 0 where
+pub record ReachingBy (n : ℕ) (steps : ℕ → ℕ → Bool) (P Q : ℕ → Type 0) (s : ℕ) (e : Shown) : Type 0 where
   pub no_place : e.place ≡ None
-  pub walk : Walk n steps s e.path
+  pub walk : WalkBy n steps s e.path
   pub before : (i : ℕ) → suc i < length e.path → P (slice_index e.path i)
   pub last : (i : ℕ) → suc i ≡ length e.path → Q (slice_index e.path i)
 
 -- P at every state of the path, whose last state has a step to the state at the place
-pub record Looping (n : ℕ) (steps : ℕ → ℕ → Bool) (P : ℕ → Type 0) (s : ℕ) (e : Shown) : Type 0 where
+pub record LoopingBy (n : ℕ) (steps : ℕ → ℕ → Bool) (P : ℕ → Type 0) (s : ℕ) (e : Shown) : Type 0 where
   pub at : ℕ
   pub is_place : e.place ≡ Some at
   pub within : at < length e.path
-  pub walk : Walk n steps s e.path
+  pub walk : WalkBy n steps s e.path
   pub throughout : (i : ℕ) → i < length e.path → P (slice_index e.path i)
   pub returns : (i : ℕ) → suc i ≡ length e.path → steps (slice_index e.path i) (slice_index e.path at) ≡ true

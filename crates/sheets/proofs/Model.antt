@@ -1,5 +1,5 @@
 -- What the model of a sheet has.
-use Rattle.std.proofs.Common.{◌≡◌, ℕ, ◌/◌, ◌%◌, ◌^◌, ◌<◌, ◌≤◌, Bool, true, false, cond, ◌&&◌, eqb, ltb, List, [], ◌∷◌, length, get_or, sym, refl, ap, ◌∙◌, inl, inr, lt_of_lt_of_le, arith, pow_mono}
+use Rattle.std.proofs.Common.{◌≡◌, ℕ, zero, suc, ◌/◌, ◌%◌, ◌^◌, ◌<◌, ◌≤◌, Bool, true, false, cond, ◌&&◌, ◌||◌, eqb, ltb, List, [], ◌∷◌, length, get_or, sym, refl, ap, ◌∙◌, inl, inr, lt_of_lt_of_le, arith, pow_mono}
 use native.Mathlib.Nat.{zero-div, div-eq_of_lt}
 use Rattle.std.proofs.lemmas.List.{get_or_past}
 use Rattle.std.proofs.lemmas.Bool.{cases_lt, and_parts, and_from, and_left, ltb-true, lt-ltb, false≢true}
@@ -89,7 +89,12 @@ share_any : (f : ℕ → Bool) (m n : ℕ) → m ≤ n → ((c : ℕ) → f c �
 share_any f m n l low = same_from_decides (any m f) (any n f) (any_says m f)
     (Decides-like (any n f) (λ x. (x.0, low x.0 x.2, x.2)) (λ x. (x.0, omega (arith, x.1), x.2)) (any_says n f))
 
+pub shares_any : (h : Holders) (i j n : ℕ) → share_some n h i j ≡ any n (λ c. held h c i && held h c j)
+unfolding share_some
+shares_any h i j zero = refl
+shares_any h i j (suc n) = ap (λ b. (held h n i && held h n j) || b) (shares_any h i j n)
+
 pub shares_is : (s : Sheet) (i j : ℕ) → share_some 8 s.holders i j ≡ shares (model_of s) i j
-unfolding model_of share_some
-shares_is s i j = sym (share_any (λ c. held s.holders c i && held s.holders c j) s.header.channels 8 s.few_channels
+unfolding model_of
+shares_is s i j = shares_any s.holders i j 8 ∙ sym (share_any (λ c. held s.holders c i && held s.holders c j) s.header.channels 8 s.few_channels
     (λ c on. (held_within _ _ s.holders s.holders_exist c i (and_parts _ _ on).0).0))

@@ -1,7 +1,7 @@
 -- Who holds which channel.
-use Rattle.std.specs.Prelude.{ℕ, zero, suc, ◌+◌, ◌*◌, Bool, false, cond, ◌&&◌, nat_lt, slice_index_or}
+use Rattle.std.specs.Prelude.{ℕ, zero, suc, ◌+◌, ◌*◌, Bool, false, cond, ◌&&◌, ◌||◌, nat_lt, slice_index_or}
 use Rattle.semantics.specs.Access.{implies}
-use Rattle.semantics.specs.Sets.{any, all}
+use Rattle.semantics.specs.Sets.{all}
 use Rattle.sheets.specs.declared.holders.Holders.{Holders}
 
 -- party p holds channel c
@@ -15,7 +15,8 @@ held_count (suc n) h p = cond (held h n p) 1 0 + held_count n h p
 
 -- one of the first n channels is held by both
 unfoldable pub share_some : ℕ → Holders → ℕ → ℕ → Bool
-share_some n h p q = any n (λ c. held h c p && held h c q)
+share_some zero h p q = false
+share_some (suc n) h p q = (held h n p && held h n q) || share_some n h p q
 
 -- every holder and its channel are among the first
 unfoldable pub holders_within : ℕ → ℕ → Holders → Bool

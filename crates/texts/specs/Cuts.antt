@@ -1,5 +1,6 @@
 -- Bytes cut at a separator.
 use Rattle.std.specs.Prelude.{ℕ, ◌+◌, cond, List, [], ◌∷◌, take, drop, ◌==◌}
+use Rattle.semantics.specs.Cuts.{count_of}
 
 -- where b stands first, or the length
 abbrev pub place : ℕ → List ℕ → ℕ
@@ -11,3 +12,7 @@ before b bs = take (place b bs) bs
 
 abbrev pub after : ℕ → List ℕ → List ℕ
 after b bs = drop (place b bs + 1) bs
+
+-- how many of the bytes are b
+abbrev pub count : ℕ → List ℕ → ℕ
+count = count_of

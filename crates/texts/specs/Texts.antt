@@ -4,9 +4,8 @@ use Rattle.texts.specs.declared.line.Line.{Line}
 use Rattle.texts.specs.declared.lines.Lines.{Lines}
 use Rattle.texts.specs.declared.refusal.Fault.{Fault}
 use Rattle.texts.specs.declared.refusal.Refusal.TheVariants.{TextTooLong, Unfinished, NotDue, EndsEarly}
-use Rattle.semantics.specs.Cuts.{count_of}
 use Rattle.semantics.specs.LineReading.{finished}
-use Rattle.texts.specs.Cuts.{before, after}
+use Rattle.texts.specs.Cuts.{before, after, count}
 use Rattle.texts.specs.Fields.{fault_at}
 use Rattle.texts.specs.Lines.{at, Opened}
 
@@ -14,7 +13,7 @@ use Rattle.texts.specs.Lines.{at, Opened}
 abbrev pub whole_of : ℕ → List ℕ → Result Unit Fault
 whole_of limit t =
     cond (nat_lt limit (length t)) (Err (fault_at TextTooLong (at 0 0)))
-    (cond (finished t) (Ok tt) (Err (fault_at Unfinished (at (count_of 10 t + 1) 0))))
+    (cond (finished t) (Ok tt) (Err (fault_at Unfinished (at (count 10 t + 1) 0))))
 
 -- the next line is taken where it has the letter b; otherwise nothing changes
 abbrev pub Took : ℕ → Lines → Option Line → Lines → Type 0

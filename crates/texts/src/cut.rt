@@ -1,6 +1,5 @@
 ghost use Rattle.std.specs.Prelude.{◌≡◌, ◌+◌, ◌≤◌, length};
-ghost use Rattle.semantics.specs.Cuts.{count_of};
-ghost use Rattle.texts.specs.Cuts.{place, before, after};
+ghost use Rattle.texts.specs.Cuts.{place, before, after, count};
 
 /// Where `b` stands first in `bytes`, or their length.
 fn find(bytes: &[u8], b: u8) -> usize
@@ -31,7 +30,7 @@ pub fn cut(bytes: &[u8], b: u8) -> (&[u8], &[u8])
 
 /// How many of `bytes` are `b`.
 pub fn occurrences(bytes: &[u8], b: u8) -> usize
-    ensures value { result ≡ count_of b bytes.now }
+    ensures value { result ≡ count b bytes.now }
     ensures bound { result ≤ length bytes.now }
 {
     let mut n = 0;

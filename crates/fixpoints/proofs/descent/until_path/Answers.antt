@@ -1,7 +1,7 @@
 use Rattle.std.proofs.Common.{◌≡◌, ℕ, ◌<◌, true, List, length, get_or, Some, None, sym, ap, ◌∙◌, subst, arith, rules}
 use Rattle.search.specs.Stack.{contents}
 use Rattle.semantics.specs.Chains.{until_chain}
-use Rattle.semantics.specs.Walks.{Reaching}
+use Rattle.semantics.specs.Walks.{ReachingBy}
 use Rattle.semantics.proofs.Settling.{until_settles}
 use Rattle.fixpoints.specs.Rounds.{among, Ordered}
 use Rattle.fixpoints.specs.Witnesses.{In, PathTo}
@@ -46,7 +46,7 @@ returns g c =
     let member : among xs k ≡ true = ap (among xs) (sym start) ∙ ap (λ v. among xs (get_or v c.in-Some.start 0)) c.as_slice-2.ensures ∙ among_at xs c.in-Some.start (omega (arith, at.0, ap length c.as_slice.ensures)) in
     let inside : (i : ℕ) → among c.as_slice-2.result.now i ≡ true → i < n =
     λ i on. until_below n s f h c.until_order.result i (sym (e.after.reached i) ∙ sym (e.listed i) ∙ ap (λ v. among v i) (sym c.as_slice-2.ensures) ∙ on) in
-    let R : ℕ → Type 0 = λ v. Reaching n s (In f) (In h) v (record { path = contents w; place = None }) in
+    let R : ℕ → Type 0 = λ v. ReachingBy n s (In f) (In h) v (record { path = contents w; place = None }) in
     let reach = subst R start (c.descend.ensures.path n f inside (subst Q (sym c.as_slice-2.ensures) e.ordered)) in
     record {
       fits = search rules;
