@@ -5,7 +5,7 @@ use Rattle.std.proofs.lemmas.Bool.Decides.{nat_tests}
 use Rattle.sets.specs.Member.{plus}
 use Rattle.semantics.specs.Sets.{Same, outside}
 use Rattle.semantics.proofs.Counts.{count_falls}
-use Rattle.sets.specs.MemberLaws.{cond_on}
+use Rattle.sets.proofs.MemberLaws.{cond_on}
 use Rattle.fixpoints.specs.Rounds.{lacks}
 use Rattle.search.specs.Stack.{contents, capacity}
 use Rattle.search.specs.declared.stack.Stack.{Stack}

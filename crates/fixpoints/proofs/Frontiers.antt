@@ -2,7 +2,7 @@
 use Rattle.std.proofs.Common.{◌≡◌, ℕ, Bool, true, false, not, ◌&&◌, ◌||◌, eqb, ltb, List, [], ◌∷◌, sym, refl, ap, ◌∙◌, inl, inr}
 use Rattle.std.proofs.lemmas.Bool.{and_from, and_parts, both_ways, cases_Bool, eq-eqb, false≢true, lt-ltb, ltb-true, not_from_false, not-true, or_cases, or_left, or_right}
 use Rattle.semantics.specs.Sets.{Same, below, into}
-use Rattle.sets.specs.MemberLaws.{same_from}
+use Rattle.sets.proofs.MemberLaws.{same_from}
 use Rattle.semantics.specs.Chains.{until_step}
 use Rattle.fixpoints.specs.Rounds.{among, into_list, list_below, Frontier}
 use Rattle.fixpoints.proofs.Lists.{among_below}

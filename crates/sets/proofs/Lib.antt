@@ -1,1 +1,3 @@
 pub mod BitLaws
+pub mod SortedLaws
+pub mod MemberLaws

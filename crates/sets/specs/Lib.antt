@@ -1,5 +1,4 @@
 pub mod Member
 pub mod Bits
 pub mod Sorted
-pub mod SortedLaws
-pub mod MemberLaws
+pub mod Bounds

@@ -1,6 +1,6 @@
 ghost use Rattle.std.specs.Prelude.{◌≡◌, ℕ, false};
 ghost use Rattle.sets.specs.Bits.{in_bits};
-ghost use Rattle.std.proofs.Common.{rules};
+ghost use Rattle.sets.specs.Bounds.{bits_small};
 
 use crate::StateSet;
 
@@ -42,7 +42,7 @@ impl StateSet for BitSet {
 
     ghost room = { 128 };
 
-    ghost bounded = { Prim.search rules };
+    ghost bounded = { λ x k h. bits_small x.bits k h };
 
     fn limit() -> usize {
         Self::CAPACITY

@@ -1,6 +1,6 @@
 ghost use Rattle.std.specs.Prelude.{◌≡◌, ℕ, ◌<◌, ◌≤◌, false, length, MatchResult};
 ghost use Rattle.sets.specs.Sorted.{Small, Rising, among, At, Between, Inserted, Removed};
-ghost use Rattle.sets.specs.SortedLaws.{among_small};
+ghost use Rattle.sets.specs.Bounds.{among_small};
 
 use crate::StateSet;
 

@@ -1,6 +1,6 @@
 use Rattle.std.proofs.Common.{get_or, refl, ap, ◌∙◌, arith}
 use Rattle.std.proofs.lemmas.Bool.{lt-ltb}
-use Rattle.sets.specs.MemberLaws.{cond_on}
+use Rattle.sets.proofs.MemberLaws.{cond_on}
 use Rattle.semantics.specs.Edits.{with_moves}
 use Rattle.sheets.specs.declared.parts.State.{State}
 use Rattle.sheets.specs.Model.{model_from}

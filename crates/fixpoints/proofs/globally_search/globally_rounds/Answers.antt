@@ -2,7 +2,7 @@ use Rattle.std.proofs.Common.{length, ◌∙◌, arith}
 use Rattle.std.proofs.lemmas.Bool.{le-leb}
 use Rattle.semantics.specs.Sets.{count, below}
 use Rattle.semantics.proofs.Counts.{count_le}
-use Rattle.sets.specs.MemberLaws.{cond_on}
+use Rattle.sets.proofs.MemberLaws.{cond_on}
 use Rattle.semantics.specs.Chains.{globally_step}
 use Rattle.fixpoints.proofs.GloballyRound.{globally_stays, globally_changes, globally_falls, chain_below, settles_inside}
 use Rattle.fixpoints.proofs.Iteration.{running_first, running_more, running_last}

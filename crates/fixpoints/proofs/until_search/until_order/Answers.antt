@@ -1,6 +1,6 @@
 use Rattle.std.proofs.Common.{ltb, drop, sym, ◌∙◌, arith}
 use Rattle.std.proofs.lemmas.Bool.{and_parts, le-leb}
-use Rattle.sets.specs.MemberLaws.{cond_on}
+use Rattle.sets.proofs.MemberLaws.{cond_on}
 use Rattle.semantics.specs.Sets.{Same, below, outside}
 use Rattle.semantics.specs.Chains.{until_step}
 use Rattle.semantics.proofs.Counts.{count_le}

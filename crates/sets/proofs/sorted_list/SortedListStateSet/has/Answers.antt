@@ -1,5 +1,5 @@
 use Rattle.std.proofs.Common.{sym}
-use Rattle.sets.specs.SortedLaws.{among_at, among_none_more}
+use Rattle.sets.proofs.SortedLaws.{among_at, among_none_more}
 use Rattle.sets.proofs.sorted_list.SortedListStateSet.has.Goals as goal
 
 pub returns-then-self-i : goal.returns-then-self-i

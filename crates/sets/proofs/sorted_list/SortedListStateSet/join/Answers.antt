@@ -2,8 +2,8 @@ use Rattle.std.proofs.Common.{◌≡◌, true, ◌||◌, get_or, sym, ap, ◌∙
 use Rattle.std.proofs.lemmas.Bool.{lt-ltb}
 use Rattle.sets.specs.Member.{plus}
 use Rattle.sets.specs.Sorted.{among}
-use Rattle.sets.specs.MemberLaws.{cond_on}
-use Rattle.sets.specs.SortedLaws.{joined_one, among_more}
+use Rattle.sets.proofs.MemberLaws.{cond_on}
+use Rattle.sets.proofs.SortedLaws.{joined_one, among_more}
 use Rattle.sets.proofs.sorted_list.SortedListStateSet.join.Goals as goal
 
 pub loop-i-preserved : goal.loop-i-preserved

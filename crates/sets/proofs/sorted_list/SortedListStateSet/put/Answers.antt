@@ -1,8 +1,8 @@
 use Rattle.std.proofs.Common.{◌<◌, sym, arith, rules}
 use Rattle.std.proofs.lemmas.Bool.{lt-ltb}
 use Rattle.sets.specs.Sorted.{among}
-use Rattle.sets.specs.MemberLaws.{has_there}
-use Rattle.sets.specs.SortedLaws.{among_at, between_fits, inserted_has, inserted_small, inserted_rises}
+use Rattle.sets.proofs.MemberLaws.{has_there}
+use Rattle.sets.proofs.SortedLaws.{among_at, between_fits, inserted_has, inserted_small, inserted_rises}
 use Rattle.sets.proofs.sorted_list.SortedListStateSet.put.Goals as goal
 
 pub insert_at-requires : goal.insert_at-requires

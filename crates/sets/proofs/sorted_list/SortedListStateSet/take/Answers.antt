@@ -1,7 +1,7 @@
 use Rattle.std.proofs.Common.{arith}
 use Rattle.sets.specs.Sorted.{among}
-use Rattle.sets.specs.MemberLaws.{has_not}
-use Rattle.sets.specs.SortedLaws.{above_none, between_none, removed_has, removed_small, removed_rises}
+use Rattle.sets.proofs.MemberLaws.{has_not}
+use Rattle.sets.proofs.SortedLaws.{above_none, between_none, removed_has, removed_small, removed_rises}
 use Rattle.sets.proofs.sorted_list.SortedListStateSet.take.Goals as goal
 
 pub returns-then-state-ge-CAPACITY : goal.returns-then-state-ge-CAPACITY

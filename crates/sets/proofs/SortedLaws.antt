@@ -1,8 +1,9 @@
 -- A rising list with a number put in or taken out.
 use Rattle.std.specs.Prelude.{◌≡◌, ℕ, zero, suc, ◌+◌, ◌-◌, ◌<◌, ◌≤◌, Bool, true, false, not, ◌&&◌, ◌||◌, List, ◌==◌, ◌≢◌, nat_eq, slice_index, slice_index_or}
 use Rattle.std.proofs.Common.{sym, ap, subst, ◌∙◌, inl, inr, arith, add-one}
-use Rattle.std.proofs.lemmas.Bool.{cases_order, cases_lt, cases_eq, or_cases, or_left, or_right, or_from, eqb-true, eq-eqb, ne_eqb, false≢true, both_ways, and_parts, and_from, not-true, not_from_false, cases_Bool}
-use Rattle.sets.specs.MemberLaws.{same_from}
+use Rattle.std.proofs.lemmas.Bool.{cases_order, cases_lt, cases_eq, or_cases, or_left, or_right, or_from, eqb-true, eq-eqb, ne_eqb, both_ways, and_parts, and_from, not-true, not_from_false, cases_Bool}
+use Rattle.sets.proofs.MemberLaws.{same_from}
+use Rattle.sets.specs.Bounds.{among_found, among_small}
 use Rattle.sets.specs.Sorted.{Small, Rising, among, Between, Inserted, Removed}
 
 pub among_at : (xs : List ℕ) (n k i : ℕ) → i < n → slice_index xs i ≡ k → among xs n k ≡ true
@@ -12,21 +13,11 @@ among_at xs (suc n) k i l e = elim (cases_eq i n) [
   | inr q ↦ or_right (k == slice_index xs n) (among xs n k) (among_at xs n k i (omega (arith, q)) e)
 ]
 
-pub among_found : (xs : List ℕ) (n k : ℕ) → among xs n k ≡ true → (i : ℕ) × (i < n) × (slice_index xs i ≡ k)
-among_found xs zero k h = absurd (false≢true h)
-among_found xs (suc n) k h = elim (or_cases (k == slice_index xs n) (among xs n k) h) [
-  | inl e ↦ (n, omega arith, sym (eqb-true k (slice_index xs n) e))
-  | inr e ↦ (let r = among_found xs n k e in (r.0, omega (arith, r.1), r.2))
-]
-
 pub among_none_more : (xs : List ℕ) (n k : ℕ) → (slice_index xs n ≢ k) → among xs n k ≡ false → among xs (n + 1) k ≡ false
 among_none_more xs n k ne h = rw add-one (or_from (k == slice_index xs n) (among xs n k) (ne_eqb k (slice_index xs n) (λ e. ne (sym e))) h)
 
 pub among_more : (xs : List ℕ) (n k : ℕ) → among xs (n + 1) k ≡ (k == slice_index xs n || among xs n k)
 among_more xs n k = rw add-one
-
-pub among_small : (xs : List ℕ) (n k : ℕ) → Small xs n → among xs n k ≡ true → k < 64
-among_small xs n k s h = let r = among_found xs n k h in omega (arith, s r.0 r.1, r.2)
 
 -- all that come after are above v too
 above_all : (xs : List ℕ) (n at v : ℕ) → Rising xs n → Between xs n at v → (k : ℕ) → at ≤ k → k < n → v < slice_index xs k
