@@ -12,6 +12,7 @@ use Rattle.sets.specs.Bits.{in_bits}
 use Rattle.sheets.specs.declared.holders.Holders.{Holders}
 use Rattle.sheets.specs.declared.parts.State.{State}
 use Rattle.sheets.specs.declared.sheet.Sheet.{Sheet}
+use Rattle.sheets.specs.Fits.{Fits}
 use Rattle.sheets.specs.Holding.{held, share_some, holders_within}
 use Rattle.sheets.specs.Model.{local_at, model_of}
 use Rattle.sheets.specs.Moves.{no_state, all_move, moves_from, move_count}
@@ -94,7 +95,7 @@ unfolding share_some
 shares_any h i j zero = refl
 shares_any h i j (suc n) = ap (λ b. (held h n i && held h n j) || b) (shares_any h i j n)
 
-pub shares_is : (s : Sheet) (i j : ℕ) → share_some 8 s.holders i j ≡ shares (model_of s) i j
+pub shares_is : (s : Sheet) → Fits s → (i j : ℕ) → share_some 8 s.holders i j ≡ shares (model_of s) i j
 unfolding model_of
-shares_is s i j = shares_any s.holders i j 8 ∙ sym (share_any (λ c. held s.holders c i && held s.holders c j) s.header.channels 8 s.few_channels
-    (λ c on. (held_within _ _ s.holders s.holders_exist c i (and_parts _ _ on).0).0))
+shares_is s f i j = shares_any s.holders i j 8 ∙ sym (share_any (λ c. held s.holders c i && held s.holders c j) s.header.channels 8 s.few_channels
+    (λ c on. (held_within _ _ s.holders f.holders_exist c i (and_parts _ _ on).0).0))

@@ -8,6 +8,7 @@ use Rattle.semantics.specs.Validity.{Valid, between, sizes_fit}
 use Rattle.semantics.proofs.Quantifiers.{any_says, all_says}
 use Rattle.sheets.specs.declared.parts.State.{State}
 use Rattle.sheets.specs.declared.sheet.Sheet.{Sheet}
+use Rattle.sheets.specs.Fits.{Fits}
 use Rattle.sheets.specs.Fitting.{copies_fit, local_fits, state_fits, states_fit, any_start, start_fits}
 use Rattle.sheets.specs.Holding.{held}
 use Rattle.sheets.specs.Model.{model_of, local_at}
@@ -38,13 +39,13 @@ start_at (s ∷ ss) e = elim (or_cases s.start (any_start ss) e) [
   | inr more ↦ (let x = start_at ss more in (suc x.0, omega (arith, x.1), x.2))
 ]
 
-module _ (s : Sheet) where
+module _ (s : Sheet) (f : Fits s) where
   abbrev ss : List State
   ss = states_of s
 
   marks_fit : (k : ℕ) → (model_of s).mark_sum k < 2 ^ (model_of s).marks
   unfolding model_of state_fits
-  marks_fit k = ltb-true _ _ (and_parts (ltb (get_or ss k no_state).marks (2 ^ s.header.marks)) _ (fits_at s.header.marks ss k s.states_fit)).0
+  marks_fit k = ltb-true _ _ (and_parts (ltb (get_or ss k no_state).marks (2 ^ s.header.marks)) _ (fits_at s.header.marks ss k f.states_fit)).0
 
   marks_placed : (k : ℕ) → 0 < (model_of s).mark_sum k → k < (model_of s).states
   unfolding model_of
@@ -70,7 +71,7 @@ module _ (s : Sheet) where
   positions_fit k p = elim (cases_Bool (ltb p s.header.parties)) [
     | inl on ↦ (let few : p < 6 = omega (arith, ltb-true _ _ on, s.few_parties) in
         let e = cond-true (ltb p s.header.parties) (local_at ss k p).position 0 on in
-        omega (arith, e, leb-true _ _ (and_parts (leb (local_at ss k p).position 999) _ (local_at_law s.header.marks ss k p s.states_fit few)).0))
+        omega (arith, e, leb-true _ _ (and_parts (leb (local_at ss k p).position 999) _ (local_at_law s.header.marks ss k p f.states_fit few)).0))
     | inr off ↦ omega (arith, cond-false (ltb p s.header.parties) (local_at ss k p).position 0 off)
   ]
 
@@ -92,7 +93,7 @@ module _ (s : Sheet) where
   copies_fit_law k p c = elim (cases_Bool (held s.holders c p)) [
     | inl on ↦ (let few = held_party c p on in
         let e = cond-true (held s.holders c p) (get_or (local_at ss k p).copies c 0) 0 on in
-        let fit = (and_parts (leb (local_at ss k p).position 999) _ (local_at_law s.header.marks ss k p s.states_fit few.1)).1 in
+        let fit = (and_parts (leb (local_at ss k p).position 999) _ (local_at_law s.header.marks ss k p f.states_fit few.1)).1 in
         omega (arith, e, leb-true _ _ ((all_says 8 (λ c. leb (get_or (local_at ss k p).copies c 0) 999)).0 fit c few.0)))
     | inr off ↦ omega (arith, cond-false (held s.holders c p) (get_or (local_at ss k p).copies c 0) 0 off)
   ]
@@ -123,15 +124,15 @@ module _ (s : Sheet) where
 
   moves_few : valid.move_count (model_of s) ≤ 1024
   unfolding model_of
-  moves_few = omega (arith, moves_are (length ss), s.few_moves)
+  moves_few = omega (arith, moves_are (length ss), f.few_moves)
 
   moves_leave : all (model_of s).states (has_step (model_of s).states (model_of s).moves) ≡ true
   unfolding model_of all_move
-  moves_leave = s.moves_leave
+  moves_leave = f.moves_leave
 
   holders_exist : (c p : ℕ) → (model_of s).holds c p ≡ true → (c < (model_of s).channels) × (p < (model_of s).parties)
   unfolding model_of
-  holders_exist c p on = held_within s.header.channels s.header.parties s.holders s.holders_exist c p on
+  holders_exist c p on = held_within s.header.channels s.header.parties s.holders f.holders_exist c p on
 
   module _ (some : false ≡ eqb (model_of s).states 0) where
     states : 0 < length ss
@@ -147,10 +148,10 @@ module _ (s : Sheet) where
 
     some_start : any (model_of s).states (model_of s).start ≡ true
     unfolding model_of
-    some_start = (any_says (length ss) (λ k. (get_or ss k no_state).start)).1 (start_at ss (a_start ss s.some_start states))
+    some_start = (any_says (length ss) (λ k. (get_or ss k no_state).start)).1 (start_at ss (a_start ss f.some_start states))
 
     used : (between 1 9999 s.header.number && leb 2 s.header.parties) ≡ true
-    used = elim (or_cases (eqb s.header.states 0) _ s.header_fits) [
+    used = elim (or_cases (eqb s.header.states 0) _ f.header_fits) [
       | inl e ↦ absurd (omega (arith, eqb-true _ _ e, s.all_states, s.tables.states.ok.0, states))
       | inr e ↦ e
     ]
@@ -179,5 +180,5 @@ module _ (s : Sheet) where
       moves_few = moves_few;
       some_start = some_start;
       moves_leave = moves_leave;
-      lines_fit = model_lines_fit s;
+      lines_fit = model_lines_fit s f;
     }

@@ -5,3 +5,4 @@ pub mod Moves
 pub mod Sheets
 pub mod Model
 pub mod Fitting
+pub mod Fits

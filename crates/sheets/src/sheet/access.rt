@@ -1,4 +1,5 @@
 ghost use Rattle.std.specs.Prelude.{◌≡◌, ◌≤◌, [], length, IfOk, ◌==◌};
+ghost use Rattle.sheets.specs.Fits.{Fits};
 ghost use Rattle.sheets.specs.Sheets.{states_of, rows_of, blank_header};
 
 use crate::holders::Holders;
@@ -10,7 +11,8 @@ use std::alloc::{AllocError, Global};
 impl Sheet {
     /// A blank sheet, with room for the largest one.
     pub fn blank(heap: Global) -> Result<Sheet, AllocError>
-        ensures { IfOk result (λ s. (s.header ≡ blank_header) × (states_of s ≡ []) × (rows_of s ≡ [])) }
+        ensures blank { IfOk result (λ s. (s.header ≡ blank_header) × (states_of s ≡ []) × (rows_of s ≡ [])) }
+        ensures fits { IfOk result Fits }
     {
         let tables = Tables::new(heap)?;
         let header = Header {

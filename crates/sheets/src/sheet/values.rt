@@ -1,5 +1,6 @@
 ghost use Rattle.std.specs.Prelude.{◌≡◌, ◌^◌, ◌≤◌};
 ghost use Rattle.semantics.specs.Sheets.{marked, shares};
+ghost use Rattle.sheets.specs.Fits.{Fits};
 ghost use Rattle.sheets.specs.Model.{model_of};
 ghost use Rattle.sheets.specs.Moves.{move_within};
 
@@ -101,7 +102,7 @@ impl Sheet {
 
     /// Whether two parties hold some channel both.
     pub fn share(&self, one: usize, other: usize) -> bool
-        ensures { result ≡ shares (model_of self.now) one other }
+        ensures { Fits self.now → result ≡ shares (model_of self.now) one other }
     {
         self.holders.share(one, other)
     }

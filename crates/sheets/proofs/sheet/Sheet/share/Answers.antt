@@ -3,4 +3,4 @@ use Rattle.sheets.proofs.Model.{shares_is}
 use Rattle.sheets.proofs.sheet.Sheet.share.Goals as goal
 
 pub returns : goal.returns
-returns c = c.share.ensures ∙ shares_is c.args.self.now c.args.one c.args.other
+returns c = λ f. c.share.ensures ∙ shares_is c.args.self.now f c.args.one c.args.other
