@@ -8,6 +8,7 @@ use Rattle.semantics.specs.Sets.{all}
 use Rattle.semantics.specs.Sheets.{shares}
 use Rattle.semantics.proofs.Quantifiers.{all_says, any_says}
 use Rattle.sheets.specs.declared.sheet.Sheet.{Sheet}
+use Rattle.sheets.specs.Fits.{Fits}
 use Rattle.sheets.specs.Holding.{held, share_some}
 use Rattle.sheets.specs.Model.{local_at, model_of}
 use Rattle.sheets.specs.Sheets.{states_of}
@@ -44,10 +45,10 @@ both_states : (a b r : Bool) → (a && (b && r)) ≡ ((a && b) && r)
 both_states true b r = refl
 both_states false b r = refl
 
-module _ (s : Sheet) (i j x t : ℕ) where
+module _ (s : Sheet) (f : Fits s) (i j x t : ℕ) where
   unheld : (c p : ℕ) → s.header.channels ≤ c → held s.holders c p ≡ false
   unheld c p l = elim (cases_Bool (held s.holders c p)) [
-    | inl on ↦ absurd (omega (arith, l, (held_within _ _ s.holders s.holders_exist c p on).0))
+    | inl on ↦ absurd (omega (arith, l, (held_within _ _ s.holders f.holders_exist c p on).0))
     | inr off ↦ off
   ]
 
@@ -65,7 +66,7 @@ module _ (s : Sheet) (i j x t : ℕ) where
   sharing_party : share_some 8 s.holders i j ≡ true → i < s.header.parties
   sharing_party on =
       let c = (any_says 8 (λ c. held s.holders c i && held s.holders c j)).0 (sym (shares_any s.holders i j 8) ∙ on) in
-      (held_within _ _ s.holders s.holders_exist c.0 i (and_parts _ _ c.2).0).1
+      (held_within _ _ s.holders f.holders_exist c.0 i (and_parts _ _ c.2).0).1
 
   positions_are : share_some 8 s.holders i j ≡ true → same_position (states_of s) i x t ≡ eqb ((model_of s).position x i) ((model_of s).position t i)
   unfolding model_of
@@ -83,12 +84,12 @@ module _ (s : Sheet) (i j x t : ℕ) where
       let rest = shares h i j && (eqb (h.position x i) (h.position t i) && all h.channels (allows h i j x t)) in
       both_states (ltb x (length (states_of s))) (ltb t (length (states_of s))) (share_some 8 s.holders i j && (same_position (states_of s) i x t && all_agreed 8 s.holders (states_of s) i j x t))
       ∙ ap (λ b. (ltb x (length (states_of s)) && ltb t (length (states_of s))) && b)
-      (guarded (share_some 8 s.holders i j) (shares h i j) _ _ (shares_is s i j)
+      (guarded (share_some 8 s.holders i j) (shares h i j) _ _ (shares_is s f i j)
       (λ on. ap (λ p. p && all_agreed 8 s.holders (states_of s) i j x t) (positions_are on)
       ∙ ap (λ a. eqb (h.position x i) (h.position t i) && a) all_agreed_is))
       ∙ ap (λ n. (ltb x n && ltb t n) && rest) states_same
       ∙ sym (access_is h i j x t)
 
 -- so both are one step rule
-pub access_same : (s : Sheet) (i j : ℕ) → accessible s.holders (states_of s) i j ≡ access (model_of s) i j
-access_same s i j = fun_ext (λ x. fun_ext (λ t. same_at s i j x t))
+pub access_same : (s : Sheet) → Fits s → (i j : ℕ) → accessible s.holders (states_of s) i j ≡ access (model_of s) i j
+access_same s f i j = fun_ext (λ x. fun_ext (λ t. same_at s f i j x t))

@@ -6,6 +6,7 @@ ghost use Rattle.semantics.specs.Judging.{set_of, rounds_of};
 ghost use Rattle.semantics.specs.Sets.{Same, below, outside, union, some_next, every_next, reversed};
 ghost use Rattle.semantics.specs.Sheets.{marked};
 ghost use Rattle.fixpoints.specs.Searches.{Found};
+ghost use Rattle.sheets.specs.Fits.{Fits};
 ghost use Rattle.sheets.specs.Model.{model_of, line_of};
 ghost use Rattle.workspace.specs.Rows.{row_in};
 ghost use Rattle.checker.specs.Access.{accessible};
@@ -115,7 +116,7 @@ fn until_states<S: StateSet>(
 /// Access on a sheet, whose holders are `holders`, for a debtor and a creditor.
 fn access_on<'a>(sheet: &'a Sheet, holders: &'a Holders, debtor: u8, creditor: u8) -> Access<'a>
     requires { holders.now ≡ sheet.now.holders }
-    ensures { accessible result.holders.now result.states.now result.debtor result.creditor ≡ access (model_of sheet.now) debtor creditor }
+    ensures { Fits sheet.now → accessible result.holders.now result.states.now result.debtor result.creditor ≡ access (model_of sheet.now) debtor creditor }
 {
     Access {
         states: sheet.states(),
@@ -134,7 +135,7 @@ fn commitment_states<S: StateSet>(
     set: &mut S,
 )
     requires { (model_of sheet.now).states ≤ S.room }
-    ensures { Same (S.holds set.new) (every_next (model_of sheet.now).states (commitment_access (model_of sheet.now) debtor creditor) (in_bits content.now.bits)) }
+    ensures { Fits sheet.now → Same (S.holds set.new) (every_next (model_of sheet.now).states (commitment_access (model_of sheet.now) debtor creditor) (in_bits content.now.bits)) }
 {
     let holders = sheet.holders();
     let access = access_on(sheet, &holders, debtor, creditor);
@@ -150,7 +151,7 @@ fn fulfilment_states<S: StateSet>(
     set: &mut S,
 )
     requires { (model_of sheet.now).states ≤ S.room }
-    ensures { Same (S.holds set.new) (some_next (model_of sheet.now).states (reversed (fulfilment_access (model_of sheet.now) debtor creditor)) (every_next (model_of sheet.now).states (commitment_access (model_of sheet.now) debtor creditor) (in_bits content.now.bits))) }
+    ensures { Fits sheet.now → Same (S.holds set.new) (some_next (model_of sheet.now).states (reversed (fulfilment_access (model_of sheet.now) debtor creditor)) (every_next (model_of sheet.now).states (commitment_access (model_of sheet.now) debtor creditor) (in_bits content.now.bits))) }
 {
     let states = sheet.state_count();
     let mut committed = BitSet::new();
@@ -171,7 +172,7 @@ pub fn evaluate<S: StateSet>(
 ) -> usize
     requires fits { (model_of sheet.now).states ≤ S.room }
     requires slots { 256 ≤ length slots.old }
-    ensures set { Same (S.holds set.new) (set_of (model_of sheet.now) (sets_in work.now) (line_of row)) }
+    ensures set { Fits sheet.now → Same (S.holds set.new) (set_of (model_of sheet.now) (sets_in work.now) (line_of row)) }
     ensures rounds { result ≡ rounds_of (model_of sheet.now) (sets_in work.now) (line_of row) }
     ensures bound { result ≤ (model_of sheet.now).states }
 {

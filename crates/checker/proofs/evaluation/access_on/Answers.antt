@@ -5,10 +5,10 @@ use Rattle.checker.proofs.SameAccess.{access_same}
 use Rattle.checker.proofs.evaluation.access_on.Goals as goal
 
 pub returns : goal.returns
-returns c =
+returns c = λ f.
     let s = c.args.sheet.now in
     ap (λ who. accessible who c.states.result.now c.from.result c.from-2.result) c.requires
     ∙ ap (λ ss. accessible s.holders ss c.from.result c.from-2.result) c.states.ensures.value
     ∙ ap (λ i. accessible s.holders (states_of s) i c.from-2.result) c.from.ensures
     ∙ ap (λ j. accessible s.holders (states_of s) c.args.debtor j) c.from-2.ensures
-    ∙ access_same s c.args.debtor c.args.creditor
+    ∙ access_same s f c.args.debtor c.args.creditor

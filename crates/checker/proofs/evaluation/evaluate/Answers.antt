@@ -16,7 +16,7 @@ returns-in-Not g c =
     let xs = c.args.row.operands in
     let e0 = operand_is c.args.work.now c.operand.result.bits (get_or xs 0 0) c.operand.ensures in
     record {
-      set = λ k. c.not_states.ensures k ∙ ap (λ m. below h.states (outside m) k) e0 ∙ sym (ap (λ o. set_of h zs (line_with o xs) k) c.in-Not.is);
+      set = λ _ k. c.not_states.ensures k ∙ ap (λ m. below h.states (outside m) k) e0 ∙ sym (ap (λ o. set_of h zs (line_with o xs) k) c.in-Not.is);
       rounds = sym (ap (λ o. rounds_of h zs (line_with o xs)) c.in-Not.is);
       bound = omega arith;
     }
@@ -29,7 +29,7 @@ returns-in-Or g c =
     let e0 = operand_is c.args.work.now c.operand-in-Or.result.bits (get_or xs 0 0) c.operand-in-Or.ensures in
     let e1 = operand_is c.args.work.now c.operand-in-Or-2.result.bits (get_or xs 1 0) c.operand-in-Or-2.ensures in
     record {
-      set = λ k. c.or_states.ensures k ∙ ap (λ m. below h.states (union m (in_bits c.operand-in-Or-2.result.bits)) k) e0 ∙ ap (λ m. below h.states (union (get_or zs (get_or xs 0 0) nothing) m) k) e1 ∙ sym (ap (λ o. set_of h zs (line_with o xs) k) c.in-Or.is);
+      set = λ _ k. c.or_states.ensures k ∙ ap (λ m. below h.states (union m (in_bits c.operand-in-Or-2.result.bits)) k) e0 ∙ ap (λ m. below h.states (union (get_or zs (get_or xs 0 0) nothing) m) k) e1 ∙ sym (ap (λ o. set_of h zs (line_with o xs) k) c.in-Or.is);
       rounds = sym (ap (λ o. rounds_of h zs (line_with o xs)) c.in-Or.is);
       bound = omega arith;
     }
@@ -41,7 +41,7 @@ returns-in-Next g c =
     let xs = c.args.row.operands in
     let e0 = operand_is c.args.work.now c.operand-in-Next.result.bits (get_or xs 0 0) c.operand-in-Next.ensures in
     record {
-      set = λ k. c.next_states.ensures k ∙ ap (λ m. some_next h.states h.moves m k) e0 ∙ sym (ap (λ o. set_of h zs (line_with o xs) k) c.in-Next.is);
+      set = λ _ k. c.next_states.ensures k ∙ ap (λ m. some_next h.states h.moves m k) e0 ∙ sym (ap (λ o. set_of h zs (line_with o xs) k) c.in-Next.is);
       rounds = sym (ap (λ o. rounds_of h zs (line_with o xs)) c.in-Next.is);
       bound = omega arith;
     }
@@ -53,7 +53,7 @@ returns-in-Globally g c =
     let xs = c.args.row.operands in
     let e0 = operand_is c.args.work.now c.operand-in-Globally.result.bits (get_or xs 0 0) c.operand-in-Globally.ensures in
     record {
-      set = λ k. c.globally_states.ensures.set_is k ∙ ap (λ m. settled h.states (globally_chain h.states h.moves m) k) e0 ∙ sym (ap (λ o. set_of h zs (line_with o xs) k) c.in-Globally.is);
+      set = λ _ k. c.globally_states.ensures.set_is k ∙ ap (λ m. settled h.states (globally_chain h.states h.moves m) k) e0 ∙ sym (ap (λ o. set_of h zs (line_with o xs) k) c.in-Globally.is);
       rounds = c.globally_states.ensures.rounds_are ∙ ap (λ m. rounds h.states (globally_chain h.states h.moves m)) e0 ∙ sym (ap (λ o. rounds_of h zs (line_with o xs)) c.in-Globally.is);
       bound = c.globally_states.ensures.bound;
     }
@@ -66,7 +66,7 @@ returns-in-Until g c =
     let e0 = operand_is c.args.work.now c.operand-in-Until.result.bits (get_or xs 0 0) c.operand-in-Until.ensures in
     let e1 = operand_is c.args.work.now c.operand-in-Until-2.result.bits (get_or xs 1 0) c.operand-in-Until-2.ensures in
     record {
-      set = λ k. c.until_states.ensures.set_is k ∙ ap (λ m. settled h.states (until_chain h.states h.moves m (in_bits c.operand-in-Until-2.result.bits)) k) e0 ∙ ap (λ m. settled h.states (until_chain h.states h.moves (get_or zs (get_or xs 0 0) nothing) m) k) e1 ∙ sym (ap (λ o. set_of h zs (line_with o xs) k) c.in-Until.is);
+      set = λ _ k. c.until_states.ensures.set_is k ∙ ap (λ m. settled h.states (until_chain h.states h.moves m (in_bits c.operand-in-Until-2.result.bits)) k) e0 ∙ ap (λ m. settled h.states (until_chain h.states h.moves (get_or zs (get_or xs 0 0) nothing) m) k) e1 ∙ sym (ap (λ o. set_of h zs (line_with o xs) k) c.in-Until.is);
       rounds = c.until_states.ensures.rounds_are ∙ ap (λ m. rounds h.states (until_chain h.states h.moves m (in_bits c.operand-in-Until-2.result.bits))) e0 ∙ ap (λ m. rounds h.states (until_chain h.states h.moves (get_or zs (get_or xs 0 0) nothing) m)) e1 ∙ sym (ap (λ o. rounds_of h zs (line_with o xs)) c.in-Until.is);
       bound = c.until_states.ensures.bound;
     }
@@ -78,7 +78,7 @@ returns-in-Commitment g c =
     let xs = c.args.row.operands in
     let e0 = operand_is c.args.work.now c.operand-in-Commitment.result.bits (get_or xs 2 0) c.operand-in-Commitment.ensures in
     record {
-      set = λ k. c.commitment_states.ensures k ∙ ap (λ m. every_next h.states (commitment_access h (get_or xs 0 0) (get_or xs 1 0)) m k) e0 ∙ sym (ap (λ o. set_of h zs (line_with o xs) k) c.in-Commitment.is);
+      set = λ f k. c.commitment_states.ensures f k ∙ ap (λ m. every_next h.states (commitment_access h (get_or xs 0 0) (get_or xs 1 0)) m k) e0 ∙ sym (ap (λ o. set_of h zs (line_with o xs) k) c.in-Commitment.is);
       rounds = sym (ap (λ o. rounds_of h zs (line_with o xs)) c.in-Commitment.is);
       bound = omega arith;
     }
@@ -90,7 +90,7 @@ returns-in-Fulfilment g c =
     let xs = c.args.row.operands in
     let e0 = operand_is c.args.work.now c.operand-in-Fulfilment.result.bits (get_or xs 2 0) c.operand-in-Fulfilment.ensures in
     record {
-      set = λ k. c.fulfilment_states.ensures k ∙ ap (λ m. some_next h.states (reversed (fulfilment_access h (get_or xs 0 0) (get_or xs 1 0))) (every_next h.states (commitment_access h (get_or xs 0 0) (get_or xs 1 0)) m) k) e0 ∙ sym (ap (λ o. set_of h zs (line_with o xs) k) c.in-Fulfilment.is);
+      set = λ f k. c.fulfilment_states.ensures f k ∙ ap (λ m. some_next h.states (reversed (fulfilment_access h (get_or xs 0 0) (get_or xs 1 0))) (every_next h.states (commitment_access h (get_or xs 0 0) (get_or xs 1 0)) m) k) e0 ∙ sym (ap (λ o. set_of h zs (line_with o xs) k) c.in-Fulfilment.is);
       rounds = sym (ap (λ o. rounds_of h zs (line_with o xs)) c.in-Fulfilment.is);
       bound = omega arith;
     }
