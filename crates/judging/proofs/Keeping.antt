@@ -9,6 +9,7 @@ use Rattle.semantics.specs.Sheets.{line_at}
 use Rattle.semantics.specs.Validity.{line_fits}
 use Rattle.sheets.specs.declared.parts.Row.{Row}
 use Rattle.sheets.specs.declared.sheet.Sheet.{Sheet}
+use Rattle.sheets.specs.Fits.{Fits}
 use Rattle.sheets.specs.Model.{model_of, line_of}
 use Rattle.sheets.specs.Sheets.{rows_of, no_row}
 use Rattle.sheets.proofs.Lines.{model_lines_fit, model_length, model_line}
@@ -18,13 +19,13 @@ use Rattle.checker.proofs.Evaluated.{set_in}
 use Rattle.judging.specs.Judging.{Kept}
 use Rattle.judging.proofs.Turning.{fits_at, line_turn, rounds_turn, line_below}
 
-module _ (s : Sheet) (k : ℕ) (l : k < length (rows_of s)) where
+module _ (s : Sheet) (f : Fits s) (k : ℕ) (l : k < length (rows_of s)) where
   l' : k < length (model_of s).lines
   l' = omega (arith, model_length s)
 
   fits : line_fits (model_of s) k (line_at (model_of s) k) ≡ true
   fits = let z : 0 + k ≡ k = omega arith in
-      ap (λ n. line_fits (model_of s) n (line_at (model_of s) k)) (sym z) ∙ fits_at (model_of s) (model_of s).lines 0 k (model_lines_fit s) l'
+      ap (λ n. line_fits (model_of s) n (line_at (model_of s) k)) (sym z) ∙ fits_at (model_of s) (model_of s).lines 0 k (model_lines_fit s f) l'
 
   module _ (work : List ℕ) (row : Row) (kept : Kept (model_of s) k work) (is : row ≡ get_or (rows_of s) k no_row) where
     sets_are : (j : ℕ) → j < k → get_or (sets_in work) j nothing ≡ line_set (model_of s) j

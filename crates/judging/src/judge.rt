@@ -1,6 +1,7 @@
 ghost use Rattle.std.specs.Prelude.{◌≡◌, ℕ, ◌+◌, ◌<◌, ◌≤◌, length, IfOk, OnErr, slice_index_or};
 ghost use Rattle.semantics.specs.Judging.{line_set, line_rounds};
 ghost use Rattle.semantics.specs.Sets.{Same, all};
+ghost use Rattle.sheets.specs.Fits.{Fits};
 ghost use Rattle.sheets.specs.Model.{model_of};
 ghost use Rattle.sheets.specs.Sheets.{states_of, rows_of, no_row};
 ghost use Rattle.judging.specs.Judging.{judge_refusal, line_refusal, settled, starts_in, start_has, Kept, Judged};
@@ -59,11 +60,11 @@ pub(crate) fn judge_row<S: StateSet>(
     requires fits { (model_of sheet.now).states ≤ S.room }
     requires sets { 1024 ≤ length sets.old }
     requires slots { 256 ≤ length slots.old }
-    requires kept { Kept (model_of sheet.now) k sets.old }
-    ensures set { Same (S.holds set.new) (line_set (model_of sheet.now) k) }
-    ensures rounds { result ≡ line_rounds (model_of sheet.now) k }
+    requires kept { Fits sheet.now → Kept (model_of sheet.now) k sets.old }
+    ensures set { Fits sheet.now → Same (S.holds set.new) (line_set (model_of sheet.now) k) }
+    ensures rounds { Fits sheet.now → result ≡ line_rounds (model_of sheet.now) k }
     ensures bound { result ≤ 128 }
-    ensures kept { Kept (model_of sheet.now) (k + 1) sets.new }
+    ensures kept { Fits sheet.now → Kept (model_of sheet.now) (k + 1) sets.new }
 {
     let rounds = evaluate(sheet, row, sets, set, slots);
     put_row(sets, k, bits_of(sheet.state_count(), set));
@@ -82,8 +83,8 @@ fn judge_rows<S: StateSet>(
     requires fits { (model_of sheet.now).states ≤ S.room }
     requires sets { 1024 ≤ length sets.old }
     requires slots { 256 ≤ length slots.old }
-    ensures set { Same (S.holds set.new) (line_set (model_of sheet.now) line) }
-    ensures rounds { result ≡ line_rounds (model_of sheet.now) line }
+    ensures set { Fits sheet.now → Same (S.holds set.new) (line_set (model_of sheet.now) line) }
+    ensures rounds { Fits sheet.now → result ≡ line_rounds (model_of sheet.now) line }
 {
     let mut rounds = 0;
     for (k, row) in sheet.rows()[0..line + 1].iter().enumerate() {
@@ -123,7 +124,7 @@ pub fn judge<S: StateSet>(
     ensures answered { settled result ≡ line_refusal (model_of sheet.now) line (length work.old) S.room }
     ensures unchanged { OnErr result (set.new ≡ set.old) }
     ensures verdict { IfOk result (λ j. j.verdict ≡ starts_in (length (states_of sheet.now)) (states_of sheet.now) (S.holds set.new)) }
-    ensures judged { IfOk result (Judged (model_of sheet.now) line (S.holds set.new)) }
+    ensures judged { Fits sheet.now → IfOk result (Judged (model_of sheet.now) line (S.holds set.new)) }
 {
     check_judge::<S>(sheet, line, work.len())?;
     let (sets, slots) = work.split_at_mut(SETS_LENGTH);

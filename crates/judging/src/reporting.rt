@@ -1,4 +1,5 @@
 ghost use Rattle.std.specs.Prelude.{◌≡◌, ℕ, ◌+◌, ◌*◌, ◌<◌, ◌≤◌, false, length, IfOk, if◌then◌else◌, OnErr, slice_index};
+ghost use Rattle.sheets.specs.Fits.{Fits};
 ghost use Rattle.sheets.specs.Model.{model_of};
 ghost use Rattle.sheets.specs.Sheets.{rows_of};
 ghost use Rattle.texts.specs.Written.{Gave, texts_below};
@@ -29,7 +30,7 @@ fn summarize(sheet: &Sheet, sets: &mut [u8], slots: &mut [u8], summaries: &mut [
     requires sets { 1024 ≤ length sets.old }
     requires slots { 256 ≤ length slots.old }
     requires summaries { 192 ≤ length summaries.old }
-    ensures { (k : ℕ) → k < length (rows_of sheet.now) → Summary (model_of sheet.now) summaries.new k }
+    ensures { Fits sheet.now → (k : ℕ) → k < length (rows_of sheet.now) → Summary (model_of sheet.now) summaries.new k }
 {
     let mut set = BitSet::new();
     let states = sheet.state_count();
@@ -69,8 +70,8 @@ pub fn report<S: StateSet>(
     set: &mut S,
     out: &mut [u8],
 ) -> Result<usize, Refusal>
-    ensures value { result ≡ report_answer (model_of sheet.now) (length work.old) (length out.old) S.room }
-    ensures text { out.new ≡ filled result (report_text (model_of sheet.now)) out.old }
+    ensures value { Fits sheet.now → result ≡ report_answer (model_of sheet.now) (length work.old) (length out.old) S.room }
+    ensures text { Fits sheet.now → out.new ≡ filled result (report_text (model_of sheet.now)) out.old }
     ensures unchanged { OnErr result ((set.new ≡ set.old) × (out.new ≡ out.old)) }
     ensures done { IfOk result (λ n. (n ≤ length out.new) × ((k : ℕ) → S.holds set.new k ≡ false)) }
 {

@@ -31,10 +31,10 @@ unfolding model_of
 returns-clause-verdict g c = c.holds_at_starts.ensures
 
 pub returns-clause-judged : goal.returns-clause-judged
-returns-clause-judged g c =
+returns-clause-judged g c = λ f.
     let h = model_of c.args.sheet.now in
     record {
-      set_is = c.judge_rows-rounds.ensures.set;
-      verdict_is = ap (λ b. cond b 1 0) (c.holds_at_starts.ensures ∙ ap (λ m. all h.states (start_has h m)) (fun_ext c.judge_rows-rounds.ensures.set));
-      rounds_are = c.judge_rows-rounds.ensures.rounds;
+      set_is = c.judge_rows-rounds.ensures.set f;
+      verdict_is = ap (λ b. cond b 1 0) (c.holds_at_starts.ensures ∙ ap (λ m. all h.states (start_has h m)) (fun_ext (c.judge_rows-rounds.ensures.set f)));
+      rounds_are = c.judge_rows-rounds.ensures.rounds f;
     }

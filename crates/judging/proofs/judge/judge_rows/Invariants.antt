@@ -1,6 +1,7 @@
 use Rattle.std.proofs.Common.{◌≡◌, ℕ, ◌+◌}
 use Rattle.semantics.specs.Judging.{line_set, line_rounds}
 use Rattle.semantics.specs.Sets.{Same}
+use Rattle.sheets.specs.Fits.{Fits}
 use Rattle.sheets.specs.Model.{model_of}
 use Rattle.judging.specs.Judging.{Kept}
 use Rattle.judging.proofs.judge.judge_rows.Given as goal
@@ -8,6 +9,6 @@ use Rattle.judging.proofs.judge.judge_rows.Given as goal
 -- after row k the set and the rounds are those of line k
 abbrev pub invariant-loop-k : goal.invariant-loop-k
 invariant-loop-k g l =
-    Kept (model_of l.sheet) l.k l.sets
-    × ((j : ℕ) → j + 1 ≡ l.k → Same (g.S.StateSet.holds l.set) (line_set (model_of l.sheet) j))
-    × ((j : ℕ) → j + 1 ≡ l.k → l.rounds ≡ line_rounds (model_of l.sheet) j)
+    (Fits l.sheet → Kept (model_of l.sheet) l.k l.sets)
+    × (Fits l.sheet → (j : ℕ) → j + 1 ≡ l.k → Same (g.S.StateSet.holds l.set) (line_set (model_of l.sheet) j))
+    × (Fits l.sheet → (j : ℕ) → j + 1 ≡ l.k → l.rounds ≡ line_rounds (model_of l.sheet) j)

@@ -19,8 +19,8 @@ loop-k-preserved c =
     let k = c.loop-k.k in
     let bytes = c.put_summary.new.summaries in (
       c.judge_row-rounds.ensures.kept,
-      summaries_more h c.loop-k.summaries bytes k c.loop-k.invariant.1 c.put_summary.ensures.others
+      λ f. summaries_more h c.loop-k.summaries bytes k (c.loop-k.invariant.1 f) c.put_summary.ensures.others
           (summary_new h bytes k (in_bits c.judge_row-rounds.new.set.bits) c.holds_at_starts-verdict.result c.judge_row-rounds.result c.count.result c.state_count-states.result
-          c.judge_row-rounds.ensures.set c.holds_at_starts-verdict.ensures c.judge_row-rounds.ensures.rounds c.count.ensures c.state_count-states.ensures.value
+          (c.judge_row-rounds.ensures.set f) c.holds_at_starts-verdict.ensures (c.judge_row-rounds.ensures.rounds f) c.count.ensures c.state_count-states.ensures.value
           c.put_summary.ensures.verdict c.put_summary.ensures.rounds c.put_summary.ensures.members),
     )
