@@ -11,6 +11,7 @@ use Rattle.semantics.proofs.OnlySheets.{only_sheets_read}
 use Rattle.semantics.proofs.SheetSizes.{texts_short}
 use Rattle.semantics.proofs.SheetsBack.{sheets_read_back}
 use Rattle.sheets.specs.declared.sheet.Sheet.{Sheet}
+use Rattle.sheets.specs.Fits.{Fits}
 use Rattle.sheets.specs.Model.{model_of}
 use Rattle.sheets.specs.Sheets.{states_of}
 use Rattle.sheets.proofs.Validity.{model_valid}
@@ -50,54 +51,55 @@ module _ (s : Sheet) (old : List ℕ) where
   unfolding model_of
   blank_same = refl
 
-  -- such a text is never too long
-  pub text_few : empty ≡ false → length (text_of s) ≤ 65536
-  text_few off = omega (arith, ap length (same_text s), texts_short (model_of s) (model_valid s (sym off ∙ blank_same)))
-
-  pub result_same : empty ≡ false → write_result (text_of s) old ≡ fitted (length (sheet_text (model_of s))) (length old)
-  result_same off =
-      cond-false _ _ _ (le-ltb 65536 (length (text_of s)) (text_few off))
-      ∙ ap (λ (t : List ℕ). fitted (length t) (length old)) (same_text s)
-
-  pub buffer_same : empty ≡ false → write_buffer (text_of s) old ≡ placed (sheet_text (model_of s)) old
-  buffer_same off =
-      cond-false _ _ _ (le-ltb 65536 (length (text_of s)) (text_few off))
-      ∙ ap (λ t. placed t old) (same_text s)
-
-  pub answer_same : cond empty (Err Blank) (write_result (text_of s) old) ≡ sheet_answer (model_of s) old
-  answer_same =
-      cond_same empty (Err Blank) (write_result (text_of s) old) (fitted (length (sheet_text (model_of s))) (length old)) result_same
-      ∙ ap (λ b. cond b (Err Blank) (fitted (length (sheet_text (model_of s))) (length old))) blank_same
-
-  pub written_same : cond empty old (write_buffer (text_of s) old) ≡ sheet_written (model_of s) old
-  written_same =
-      cond_same empty old (write_buffer (text_of s) old) (placed (sheet_text (model_of s)) old) buffer_same
-      ∙ ap (λ b. cond b old (placed (sheet_text (model_of s)) old)) blank_same
-
   pub blank_answer : empty ≡ true → Err Blank ≡ sheet_answer (model_of s) old
-  blank_answer on = sym (cond-true empty _ _ on) ∙ answer_same
+  blank_answer on = sym (cond-true _ _ _ (sym blank_same ∙ on))
 
   pub blank_written : empty ≡ true → old ≡ sheet_written (model_of s) old
-  blank_written on = sym (cond-true empty _ _ on) ∙ written_same
+  blank_written on = sym (cond-true _ _ _ (sym blank_same ∙ on))
 
-  pub some_answer : empty ≡ false → write_result (text_of s) old ≡ sheet_answer (model_of s) old
-  some_answer off = sym (cond-false empty _ _ off) ∙ answer_same
+  module _ (f : Fits s) where
+    -- such a text is never too long
+    pub text_few : empty ≡ false → length (text_of s) ≤ 65536
+    text_few off = omega (arith, ap length (same_text s f), texts_short (model_of s) (model_valid s f (sym off ∙ blank_same)))
 
-  pub some_written : empty ≡ false → write_buffer (text_of s) old ≡ sheet_written (model_of s) old
-  some_written off = sym (cond-false empty _ _ off) ∙ written_same
+    pub result_same : empty ≡ false → write_result (text_of s) old ≡ fitted (length (sheet_text (model_of s))) (length old)
+    result_same off =
+        cond-false _ _ _ (le-ltb 65536 (length (text_of s)) (text_few off))
+        ∙ ap (λ (t : List ℕ). fitted (length t) (length old)) (same_text s f)
 
-  -- where it answers a length, that many bytes read back
-  pub written_back : (r : Result ℕ Refusal) (new : List ℕ) → r ≡ sheet_answer (model_of s) old → new ≡ sheet_written (model_of s) old → IfOk r (ReadsBack (model_of s) new)
-  written_back r new e f =
-      let h = model_of s in
-      subst (λ x. IfOk x (ReadsBack (model_of s) new)) (sym e) (elim (cases_Bool empty) [
-        | inl on ↦ subst (λ x. IfOk x (ReadsBack (model_of s) new)) (blank_answer on) tt
-        | inr off ↦ elim (cases_lt (length old) (length (sheet_text h))) [
-          | inl less ↦ subst (λ x. IfOk x (ReadsBack (model_of s) new))
-              (sym (cond-false _ _ _ (sym blank_same ∙ off) ∙ cond-true _ _ _ (lt-ltb (length old) (length (sheet_text h)) less))) tt
-          | inr room ↦
-              let some : false ≡ eqb h.states 0 = sym off ∙ blank_same in
-              let v = model_valid s some in
-              subst (λ x. IfOk x (ReadsBack (model_of s) new)) (length_answered h v some old room) (text_back h v some old room (length (sheet_text h)) new refl f)
-        ]
-      ])
+    pub buffer_same : empty ≡ false → write_buffer (text_of s) old ≡ placed (sheet_text (model_of s)) old
+    buffer_same off =
+        cond-false _ _ _ (le-ltb 65536 (length (text_of s)) (text_few off))
+        ∙ ap (λ t. placed t old) (same_text s f)
+
+    pub answer_same : cond empty (Err Blank) (write_result (text_of s) old) ≡ sheet_answer (model_of s) old
+    answer_same =
+        cond_same empty (Err Blank) (write_result (text_of s) old) (fitted (length (sheet_text (model_of s))) (length old)) result_same
+        ∙ ap (λ b. cond b (Err Blank) (fitted (length (sheet_text (model_of s))) (length old))) blank_same
+
+    pub written_same : cond empty old (write_buffer (text_of s) old) ≡ sheet_written (model_of s) old
+    written_same =
+        cond_same empty old (write_buffer (text_of s) old) (placed (sheet_text (model_of s)) old) buffer_same
+        ∙ ap (λ b. cond b old (placed (sheet_text (model_of s)) old)) blank_same
+
+    pub some_answer : empty ≡ false → write_result (text_of s) old ≡ sheet_answer (model_of s) old
+    some_answer off = sym (cond-false empty _ _ off) ∙ answer_same
+
+    pub some_written : empty ≡ false → write_buffer (text_of s) old ≡ sheet_written (model_of s) old
+    some_written off = sym (cond-false empty _ _ off) ∙ written_same
+
+    -- where it answers a length, that many bytes read back
+    pub written_back : (r : Result ℕ Refusal) (new : List ℕ) → r ≡ sheet_answer (model_of s) old → new ≡ sheet_written (model_of s) old → IfOk r (ReadsBack (model_of s) new)
+    written_back r new e g =
+        let h = model_of s in
+        subst (λ x. IfOk x (ReadsBack (model_of s) new)) (sym e) (elim (cases_Bool empty) [
+          | inl on ↦ subst (λ x. IfOk x (ReadsBack (model_of s) new)) (blank_answer on) tt
+          | inr off ↦ elim (cases_lt (length old) (length (sheet_text h))) [
+            | inl less ↦ subst (λ x. IfOk x (ReadsBack (model_of s) new))
+                (sym (cond-false _ _ _ (sym blank_same ∙ off) ∙ cond-true _ _ _ (lt-ltb (length old) (length (sheet_text h)) less))) tt
+            | inr room ↦
+                let some : false ≡ eqb h.states 0 = sym off ∙ blank_same in
+                let v = model_valid s f some in
+                subst (λ x. IfOk x (ReadsBack (model_of s) new)) (length_answered h v some old room) (text_back h v some old room (length (sheet_text h)) new refl g)
+          ]
+        ])

@@ -1,4 +1,4 @@
--- The text from the tables of a sheet is the text of its model.
+-- The text from the tables of a sheet that fits is the text of its model.
 use Rattle.std.proofs.Common.{◌≡◌, ℕ, zero, suc, ◌<◌, ◌≤◌, Bool, true, false, cond, ◌&&◌, ltb, List, [], ◌∷◌, ◌++◌, map, length, get_or, take, decimal, sym, refl, ap, ◌∙◌, inl, inr, append_assoc, append-nil, add-one, arith}
 use Rattle.std.proofs.lemmas.List.{take_all}
 use Rattle.std.proofs.lemmas.Bool.{cases_lt, cases_Bool, cond-false, lt-ltb}
@@ -15,6 +15,7 @@ use Rattle.sheets.specs.declared.parts.Header.{Header}
 use Rattle.sheets.specs.declared.parts.Row.{Row}
 use Rattle.sheets.specs.declared.parts.State.{State}
 use Rattle.sheets.specs.declared.sheet.Sheet.{Sheet}
+use Rattle.sheets.specs.Fits.{Fits}
 use Rattle.sheets.specs.Holding.{held}
 use Rattle.sheets.specs.Model.{line_of, line_with, local_at, model_of}
 use Rattle.sheets.specs.Moves.{move_in, move_within}
@@ -96,7 +97,7 @@ rows_below rs (suc k) l =
 rows_same : (rs : List Row) → rows_text rs ≡ numbered_text model.formula_text 0 (map line_of rs)
 rows_same rs = rows_below rs (length rs) (omega arith) ∙ ap lines.rows_text (take_all (length rs) rs (omega arith))
 
-module _ (s : Sheet) where
+module _ (s : Sheet) (f : Fits s) where
   abbrev ss : List State
   ss = states_of s
 
@@ -112,13 +113,13 @@ module _ (s : Sheet) where
   -- past the last channel or party nothing is held
   free_channel : (c p : ℕ) → head.channels ≤ c → held who c p ≡ false
   free_channel c p l = elim (cases_Bool (held who c p)) [
-    | inl on ↦ absurd (omega (arith, l, (held_within head.channels head.parties who s.holders_exist c p on).0))
+    | inl on ↦ absurd (omega (arith, l, (held_within head.channels head.parties who f.holders_exist c p on).0))
     | inr off ↦ off
   ]
 
   free_party : (c p : ℕ) → head.parties ≤ p → held who c p ≡ false
   free_party c p l = elim (cases_Bool (held who c p)) [
-    | inl on ↦ absurd (omega (arith, l, (held_within head.channels head.parties who s.holders_exist c p on).1))
+    | inl on ↦ absurd (omega (arith, l, (held_within head.channels head.parties who f.holders_exist c p on).1))
     | inr off ↦ off
   ]
 

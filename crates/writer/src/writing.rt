@@ -1,6 +1,7 @@
 ghost use Rattle.std.specs.Prelude.{◌≡◌, ℕ, ◌<◌, ◌≤◌, length};
 ghost use Rattle.texts.specs.Written.{Gave, texts_below};
 ghost use Rattle.semantics.specs.SheetText.{sheet_text};
+ghost use Rattle.sheets.specs.Fits.{Fits};
 ghost use Rattle.sheets.specs.Model.{model_of};
 ghost use Rattle.sheets.specs.Rows.{nth};
 ghost use Rattle.sheets.specs.Operators.{kinds_of};
@@ -237,7 +238,7 @@ fn write_text(sheet: &Sheet, writer: &mut Writer<'_>)
 pub fn write(sheet: &Sheet, out: &mut [u8]) -> Result<usize, Refusal>
     ensures value { result ≡ write_result (text_of sheet.now) out.old }
     ensures after { out.new ≡ write_buffer (text_of sheet.now) out.old }
-    ensures text { text_of sheet.now ≡ sheet_text (model_of sheet.now) }
+    ensures text { Fits sheet.now → text_of sheet.now ≡ sheet_text (model_of sheet.now) }
 {
     let mut measure = Writer::new(&mut []);
     write_text(sheet, &mut measure);
