@@ -1,4 +1,5 @@
 ghost use Rattle.std.specs.Prelude.{◌≡◌, ℕ, ◌≤◌, false, cond, [], length, IfOk, OnErr, OnOk};
+ghost use Rattle.sheets.specs.Fits.{Fits};
 ghost use Rattle.sheets.specs.Model.{model_of};
 ghost use Rattle.sheets.specs.Sheets.{states_of, rows_of};
 ghost use Rattle.writer.specs.Writing.{sheet_answer, sheet_written, ReadsBack};
@@ -18,6 +19,7 @@ use texts::refusal::{Fault, Refusal};
 pub struct Bench {
     sheet: Sheet,
     spare: Tables,
+    ghost fits: { Fits sheet },
 }
 
 impl Bench {

@@ -1,5 +1,6 @@
 ghost use Rattle.std.specs.Prelude.{◌≡◌, ℕ, ◌+◌, ◌<◌, ◌≤◌, true, [], IfOk, vec_len, OnErr, OnOk};
 ghost use Rattle.reader.specs.Readers.{Bounded};
+ghost use Rattle.sheets.specs.Fits.{Fits};
 ghost use Rattle.sheets.specs.Fitting.{states_fit, any_start};
 ghost use Rattle.sheets.specs.Holding.{holders_within};
 ghost use Rattle.sheets.specs.Moves.{move_count};
@@ -225,7 +226,8 @@ fn fill(tables: &mut Tables, text: &[u8]) -> Result<Front, Fault>
 /// Reads a sheet's text. The spare tables are then those of the sheet that was there, or hold nothing of
 /// use after a refusal, which leaves the sheet as it was.
 pub fn read(sheet: &mut Sheet, spare: &mut Tables, text: &[u8]) -> Result<(), Fault>
-    ensures { OnErr result (sheet.new ≡ sheet.old) }
+    ensures kept { OnErr result (sheet.new ≡ sheet.old) }
+    ensures fits { OnOk result (Fits sheet.new) }
 {
     let Front { header, holders } = fill(spare, text)?;
     std::mem::swap(&mut sheet.tables, spare);
