@@ -1,6 +1,5 @@
 -- Access by its parts.
-use Rattle.std.proofs.Common.{◌≡◌, ℕ, zero, suc, ◌<◌, ◌≤◌, Bool, true, false, not, ◌&&◌, eqb, ltb, ◌⊎◌, sym, refl, ap, ◌∙◌, inl, inr, arith}
-use Rattle.std.proofs.lemmas.Bool.{and_from, and_left, and_right, lt-ltb, le-ltb}
+use Rattle.std.proofs.Common.{◌≡◌, ℕ, zero, suc, Bool, true, false, not, ◌&&◌, eqb, ltb, sym, refl, ap, ◌∙◌}
 use Rattle.semantics.specs.Access.{implies, agree, access}
 use Rattle.semantics.specs.Sets.{all}
 use Rattle.semantics.specs.Sheets.{Sheet, shares}
@@ -42,23 +41,3 @@ access_is h i j s t =
     ap (λ b. (ltb s h.states && ltb t h.states) && b)
     (arrange p (all n f) (shares h i j) (all n g) (all n k)
     ∙ ap (λ b. shares h i j && (p && b)) (sym (all_and n f (λ c. g c && k c) ∙ ap (λ b. all n f && b) (all_and n g k))))
-
-module _ (h : Sheet) (i j s t n : ℕ) (e : n ≡ h.states) where
-  pub outside_states : (n ≤ s) ⊎ ((s < n) × (n ≤ t)) → false ≡ access h i j s t
-  outside_states w = sym (access_is h i j s t ∙ and_left _ _ (elim w [
-    | inl l ↦ and_left (ltb s h.states) _ (le-ltb s h.states (omega arith))
-    | inr l ↦ and_right (ltb s h.states) _ (le-ltb t h.states (omega arith))
-  ]))
-
-  pub without_sharing : false ≡ shares h i j → false ≡ access h i j s t
-  without_sharing off = sym (access_is h i j s t ∙ and_right (ltb s h.states && ltb t h.states) _ (and_left _ _ (sym off)))
-
-  -- what is left to ask of two states where the parties share a channel
-  pub by_channels : (x y : ℕ) → s < n → t < n → true ≡ shares h i j → x ≡ h.position s i → y ≡ h.position t i →
-      (eqb x y && all h.channels (allows h i j s t)) ≡ access h i j s t
-  by_channels x y ls lt on ex ey =
-      let rest = all h.channels (allows h i j s t) in
-      let both = and_from _ _ (lt-ltb s h.states (omega arith)) (lt-ltb t h.states (omega arith)) in
-      ap (λ a. eqb a y && rest) ex ∙ ap (λ b. eqb (h.position s i) b && rest) ey
-      ∙ sym (access_is h i j s t ∙ ap (λ b. b && (shares h i j && (eqb (h.position s i) (h.position t i) && rest))) both
-      ∙ ap (λ b. b && (eqb (h.position s i) (h.position t i) && rest)) (sym on))

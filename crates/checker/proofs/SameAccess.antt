@@ -12,7 +12,7 @@ use Rattle.sheets.specs.Fits.{Fits}
 use Rattle.sheets.specs.Holding.{held, share_some}
 use Rattle.sheets.specs.Model.{local_at, model_of}
 use Rattle.sheets.specs.Sheets.{states_of}
-use Rattle.sheets.proofs.Model.{held_within, shares_any, shares_is}
+use Rattle.sheets.proofs.Model.{held_within, free_channel, shares_any, shares_is}
 use Rattle.checker.specs.Access.{agreed, all_agreed, same_position, accessible}
 use Rattle.checker.proofs.AccessParts.{allows, access_is}
 
@@ -46,12 +46,6 @@ both_states true b r = refl
 both_states false b r = refl
 
 module _ (s : Sheet) (f : Fits s) (i j x t : ℕ) where
-  unheld : (c p : ℕ) → s.header.channels ≤ c → held s.holders c p ≡ false
-  unheld c p l = elim (cases_Bool (held s.holders c p)) [
-    | inl on ↦ absurd (omega (arith, l, (held_within _ _ s.holders f.holders_exist c p on).0))
-    | inr off ↦ off
-  ]
-
   agreed_is : (c : ℕ) → agreed s.holders (states_of s) i j x t c ≡ allows (model_of s) i j x t c
   unfolding model_of
   agreed_is c = channel (held s.holders c i) (held s.holders c j) _ _ _ _
@@ -60,7 +54,7 @@ module _ (s : Sheet) (f : Fits s) (i j x t : ℕ) where
   unfolding all_agreed model_of
   all_agreed_is = ap (all 8) (fun_ext agreed_is)
       ∙ all_wider (allows (model_of s) i j x t) s.header.channels 8 s.few_channels
-      (λ c l. free (held s.holders c i) (held s.holders c j) _ _ _ (unheld c i l) (unheld c j l))
+      (λ c l. free (held s.holders c i) (held s.holders c j) _ _ _ (free_channel s f c i l) (free_channel s f c j l))
 
   -- a party that shares a channel is one of the sheet's
   sharing_party : share_some 8 s.holders i j ≡ true → i < s.header.parties

@@ -1,5 +1,5 @@
 -- The bytes kept about each line, and the report that they give.
-use Rattle.std.proofs.Common.{◌≡◌, ℕ, zero, suc, ◌+◌, ◌*◌, ◌<◌, ◌≤◌, Bool, true, false, cond, eqb, ltb, List, [], ◌∷◌, ◌++◌, length, get_or, Ok, Err, decimal, Result, sym, refl, ap, ◌∙◌, subst, inl, inr, arith, length-append}
+use Rattle.std.proofs.Common.{◌≡◌, ℕ, zero, suc, ◌+◌, ◌*◌, ◌<◌, ◌≤◌, Bool, true, false, cond, eqb, ltb, List, [], ◌∷◌, length, get_or, Ok, Err, decimal, Result, sym, ap, ◌∙◌, subst, inl, inr, arith, length-append}
 use mathlib.Core.Path.{fun_ext}
 use Rattle.std.proofs.lemmas.Fmt.{length-decimal-le}
 use Rattle.std.proofs.lemmas.Bool.{cases_eq, cond-true, cond-false, lt-ltb, le-ltb}
@@ -11,6 +11,7 @@ use Rattle.texts.proofs.Writing.{gave_as}
 use Rattle.semantics.specs.Chains.{rounds}
 use Rattle.semantics.specs.Judging.{line_set, line_sets, line_rounds, rounds_of, verdict}
 use Rattle.semantics.specs.Sets.{Same, count, all}
+use Rattle.semantics.proofs.BelowTexts.{texts_same}
 use Rattle.semantics.specs.Sheets.{Sheet, Line, mark, negation, disjunction, next, globally, until, commitment, fulfilment, line_at}
 use Rattle.semantics.proofs.Counts.{count_le}
 use Rattle.semantics.proofs.Quantifiers.{least_le}
@@ -80,11 +81,6 @@ module _ (h : Sheet) where
   unfolding report_text
   report_short few lines = omega (arith, texts_short few (length h.lines) lines)
 
-texts_alike : (n : ℕ) (f g : ℕ → List ℕ) → ((k : ℕ) → k < n → f k ≡ g k) → texts_below n f ≡ texts_below n g
-unfolding texts_below
-texts_alike zero f g each = refl
-texts_alike (suc n) f g each = ap (λ t. t ++ f n) (texts_alike n f g (λ k l. each k (omega arith))) ∙ ap (λ t. texts_below n g ++ t) (each n (omega arith))
-
 kept_is : (h : Sheet) (bytes : List ℕ) (k : ℕ) → Summary h bytes k → kept_text bytes k ≡ summary_text h k
 kept_is h bytes k s =
     ap (λ v. line_text 82 (k ∷ v ∷ get_or bytes (3 * k + 1) 0 ∷ get_or bytes (3 * k + 2) 0 ∷ [])) s.verdict_is
@@ -96,7 +92,7 @@ pub report_is : (s : sheets.Sheet) (bytes : List ℕ) (n : ℕ) → n ≡ length
 unfolding report_text
 report_is s bytes n e each =
     ap (λ i. texts_below i (kept_text bytes)) (e ∙ sym (model_length s))
-    ∙ texts_alike (length (model_of s).lines) (kept_text bytes) (summary_text (model_of s)) (λ k l. kept_is (model_of s) bytes k (each k (omega (arith, model_length s))))
+    ∙ texts_same (length (model_of s).lines) (kept_text bytes) (summary_text (model_of s)) (λ k l. kept_is (model_of s) bytes k (each k (omega (arith, model_length s))))
 
 -- a writer that was given the report from the front has counted its length
 pub report_given : (s : sheets.Sheet) (bytes : List ℕ) (n : ℕ) (w v : Writer) → n ≡ length (rows_of s) → ((k : ℕ) → k < length (rows_of s) → Summary (model_of s) bytes k) →

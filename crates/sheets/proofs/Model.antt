@@ -2,7 +2,7 @@
 use Rattle.std.proofs.Common.{◌≡◌, ℕ, zero, suc, ◌/◌, ◌%◌, ◌^◌, ◌<◌, ◌≤◌, Bool, true, false, cond, ◌&&◌, ◌||◌, eqb, ltb, List, [], ◌∷◌, length, get_or, sym, refl, ap, ◌∙◌, inl, inr, lt_of_lt_of_le, arith, pow_mono}
 use native.Mathlib.Nat.{zero-div, div-eq_of_lt}
 use Rattle.std.proofs.lemmas.List.{get_or_past}
-use Rattle.std.proofs.lemmas.Bool.{cases_lt, and_parts, and_from, and_left, ltb-true, lt-ltb, false≢true}
+use Rattle.std.proofs.lemmas.Bool.{cases_lt, cases_Bool, and_parts, and_from, and_left, ltb-true, lt-ltb, false≢true}
 use Rattle.std.proofs.lemmas.Bool.Decides.{same_from_decides, Decides-like}
 use Rattle.semantics.specs.Access.{implies}
 use Rattle.semantics.specs.Sets.{any, all, bit_of}
@@ -84,6 +84,20 @@ small_bits x k h = elim (cases_lt k 128) [
 
 pub no_mark : (ss : List State) (k m : ℕ) → length ss ≤ k → bit_of (get_or ss k no_state).marks m ≡ false
 no_mark ss k m h = ap (λ (s : State). bit_of s.marks m) (get_or_past ss k no_state h) ∙ ap (λ q. eqb (q % 2) 1) (zero-div (2 ^ m))
+
+-- past the last channel or party of a sheet that fits nothing is held
+module _ (s : Sheet) (f : Fits s) where
+  pub free_channel : (c p : ℕ) → s.header.channels ≤ c → held s.holders c p ≡ false
+  free_channel c p l = elim (cases_Bool (held s.holders c p)) [
+    | inl on ↦ absurd (omega (arith, l, (held_within _ _ s.holders f.holders_exist c p on).0))
+    | inr off ↦ off
+  ]
+
+  pub free_party : (c p : ℕ) → s.header.parties ≤ p → held s.holders c p ≡ false
+  free_party c p l = elim (cases_Bool (held s.holders c p)) [
+    | inl on ↦ absurd (omega (arith, l, (held_within _ _ s.holders f.holders_exist c p on).1))
+    | inr off ↦ off
+  ]
 
 -- a channel that two parties share is among those of the sheet
 share_any : (f : ℕ → Bool) (m n : ℕ) → m ≤ n → ((c : ℕ) → f c ≡ true → c < m) → any m f ≡ any n f

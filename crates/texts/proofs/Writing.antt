@@ -12,6 +12,11 @@ over_over (x ∷ xs) old ys p h =
     let e : onward p (length (x ∷ xs)) ≡ onward (onward p 1) (length xs) = omega arith in
     ap (λ n. over (over old p (x ∷ xs)) n ys) e ∙ over_over xs (set old p x) ys (onward p 1) (omega arith)
 
+-- a text leaves the length of what it is written over
+pub length_over : (old : List ℕ) (p : ℕ) (bs : List ℕ) → length (over old p bs) ≡ length old
+length_over old p [] = refl
+length_over old p (b ∷ bs) = length_over (set old p b) (onward p 1) bs ∙ length-set old p b
+
 pub gave_byte : (w v : Writer) (b : ℕ) → v.buffer.now ≡ set w.buffer.now w.length b → v.length ≡ onward w.length 1 → v.buffer.ghost_name ≡ w.buffer.ghost_name → Gave w (b ∷ []) v
 gave_byte w v b e n l = record { bytes = e; counted = n; lent = l }
 

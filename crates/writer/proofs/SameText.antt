@@ -1,7 +1,7 @@
 -- The text from the tables of a sheet that fits is the text of its model.
 use Rattle.std.proofs.Common.{◌≡◌, ℕ, zero, suc, ◌<◌, ◌≤◌, Bool, true, false, cond, ◌&&◌, ltb, List, [], ◌∷◌, ◌++◌, map, length, get_or, take, decimal, sym, refl, ap, ◌∙◌, inl, inr, append_assoc, append-nil, add-one, arith}
 use Rattle.std.proofs.lemmas.List.{take_all}
-use Rattle.std.proofs.lemmas.Bool.{cases_lt, cases_Bool, cond-false, lt-ltb}
+use Rattle.std.proofs.lemmas.Bool.{cases_lt, cond-false, lt-ltb}
 use Rattle.semantics.specs.SheetText as model
 use Rattle.semantics.specs.SheetText.{sheet_text}
 use Rattle.semantics.specs.Written.{fields_text, line_text, texts_below, numbered_text}
@@ -22,7 +22,7 @@ use Rattle.sheets.specs.Moves.{move_in, move_within}
 use Rattle.sheets.specs.Operators.{kinds_of}
 use Rattle.sheets.specs.Rows.{nth}
 use Rattle.sheets.specs.Sheets.{states_of, rows_of, no_row}
-use Rattle.sheets.proofs.Model.{held_within}
+use Rattle.sheets.proofs.Model.{free_channel, free_party}
 use Rattle.writer.specs.Render.{holder_text, holders_text, states_text, copies_text, local_text, locals_text, moves_text, number_text, formula_text, row_text, rows_text}
 use Rattle.writer.specs.Writing.{text_of}
 use Rattle.writer.proofs.Rows as lines
@@ -110,30 +110,17 @@ module _ (s : Sheet) (f : Fits s) where
   counted : head.states ≡ length ss
   counted = omega (arith, s.all_states, s.tables.states.ok.0)
 
-  -- past the last channel or party nothing is held
-  free_channel : (c p : ℕ) → head.channels ≤ c → held who c p ≡ false
-  free_channel c p l = elim (cases_Bool (held who c p)) [
-    | inl on ↦ absurd (omega (arith, l, (held_within head.channels head.parties who f.holders_exist c p on).0))
-    | inr off ↦ off
-  ]
-
-  free_party : (c p : ℕ) → head.parties ≤ p → held who c p ≡ false
-  free_party c p l = elim (cases_Bool (held who c p)) [
-    | inl on ↦ absurd (omega (arith, l, (held_within head.channels head.parties who f.holders_exist c p on).1))
-    | inr off ↦ off
-  ]
-
   holders_same : holders_text who ≡ texts_below head.channels (λ c. texts_below head.parties (holder_text who c))
   holders_same =
       texts_cut 8 head.channels _ s.few_channels
-      (λ c l _. texts_none 6 (holder_text who c) (λ p _. cond-false (held who c p) _ _ (free_channel c p l)))
+      (λ c l _. texts_none 6 (holder_text who c) (λ p _. cond-false (held who c p) _ _ (free_channel s f c p l)))
       ∙ texts_same head.channels _ _
-      (λ c _. texts_cut 6 head.parties (holder_text who c) s.few_parties (λ p l _. cond-false (held who c p) _ _ (free_party c p l)))
+      (λ c _. texts_cut 6 head.parties (holder_text who c) s.few_parties (λ p l _. cond-false (held who c p) _ _ (free_party s f c p l)))
 
   copies_same : (k p : ℕ) → copies_text who p (local_at ss k p) ≡ model.copies_text (model_of s) k p
   unfolding model_of
   copies_same k p =
-      texts_cut 8 head.channels _ s.few_channels (λ c l _. cond-false (held who c p) _ _ (free_channel c p l))
+      texts_cut 8 head.channels _ s.few_channels (λ c l _. cond-false (held who c p) _ _ (free_channel s f c p l))
       ∙ texts_same head.channels _ _ (λ c _. twice (held who c p) (get_or (local_at ss k p).copies c 0))
 
   local_same : (k p : ℕ) → p < head.parties → local_text who ss k p ≡ model.local_text (model_of s) k p

@@ -1,11 +1,11 @@
-use Rattle.std.proofs.Common.{◌≡◌, ℕ, List, [], ◌∷◌, set, length-set, refl, ◌<◌, ◌≤◌, ◌++◌, length, drop, Ok, sym, ap, ◌∙◌, arith, rules}
+use Rattle.std.proofs.Common.{◌≡◌, ℕ, List, ◌<◌, ◌≤◌, ◌++◌, length, drop, Ok, sym, ap, ◌∙◌, arith, rules}
 use Rattle.sheets.specs.declared.sheet.Sheet.{Sheet}
 use Rattle.sheets.specs.Fits.{Fits}
 use Rattle.sheets.specs.Model.{model_of}
 use Rattle.sheets.specs.Sheets.{rows_of}
-use Rattle.texts.proofs.Writing.{gave_front}
+use Rattle.texts.proofs.Writing.{length_over, gave_front}
 use Rattle.texts.specs.declared.writer.Writer.{Writer}
-use Rattle.texts.specs.Written.{over, onward, Gave, texts_below}
+use Rattle.texts.specs.Written.{Gave, texts_below}
 use Rattle.judging.specs.Reporting.{report_text, Summary, kept_text}
 use Rattle.judging.proofs.Summaries.{report_given, report_measured, report_short, short_out, small_set, reported}
 use Rattle.sheets.proofs.Lines.{few_states, few_lines}
@@ -18,11 +18,6 @@ returns-then-is_blank g c = search rules
 pub returns-then-work-lt-WORK_LENGTH : goal.returns-then-work-lt-WORK_LENGTH
 unfolding model_of
 returns-then-work-lt-WORK_LENGTH g c = search rules
-
--- a text leaves the length of the buffer that it is written over
-length_over : (old : List ℕ) (p : ℕ) (bs : List ℕ) → length (over old p bs) ≡ length old
-length_over old p [] = refl
-length_over old p (b ∷ bs) = length_over (set old p b) (onward p 1) bs ∙ length-set old p b
 
 -- what was written of the lines is their report, and its length is what was measured
 module _ (s : Sheet) (f : Fits s) (bytes : List ℕ) (rows : ℕ) (e : rows ≡ length (rows_of s)) (kept : (k : ℕ) → k < length (rows_of s) → Summary (model_of s) bytes k) where
