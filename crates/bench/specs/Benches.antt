@@ -1,10 +1,10 @@
 -- What the calls of a bench answer.
-use Rattle.std.specs.Prelude.{◌≡◌, ℕ, ◌<◌, Bool, true, cond, ◌↔◌, List, [], ◌∷◌, length, Ok, Err, Result, ◌==◌}
+use Rattle.std.specs.Prelude.{◌≡◌, ℕ, ◌<◌, Bool, true, cond, ◌↔◌, List, length, Ok, Err, Result, ◌==◌}
 use Rattle.texts.specs.declared.refusal.Fault.{Fault}
 use Rattle.texts.specs.declared.refusal.Refusal.{Refusal}
 use Rattle.texts.specs.declared.refusal.Refusal.TheVariants.{Blank}
-use Rattle.texts.specs.Refusals.{code_of}
-use Rattle.texts.specs.Written.{line_text, fitted, placed}
+use Rattle.texts.specs.Refusals.{fault_text}
+use Rattle.texts.specs.Written.{fitted, placed}
 use Rattle.semantics.specs.Formulas.{Holds, tree_at}
 use Rattle.semantics.specs.Sheets as model
 use Rattle.sheets.specs.declared.sheet.Sheet.{Sheet}
@@ -19,10 +19,6 @@ write_answer s old = cond (length (states_of s) == 0) (Err Blank) (write_result 
 
 abbrev pub written_out : Sheet → List ℕ → List ℕ
 written_out s old = cond (length (states_of s) == 0) old (write_buffer (text_of s) old)
-
--- a fault as a line: its number, line and field
-abbrev pub fault_text : Fault → List ℕ
-fault_text f = line_text 69 (code_of f.refusal ∷ f.place.line ∷ f.place.field ∷ [])
 
 -- z has exactly the states at which line f holds along endless paths
 abbrev pub WhereTrue : model.Sheet → ℕ → (ℕ → Bool) → Type 0

@@ -70,8 +70,8 @@ impl Bench {
         work: &mut [u8],
         set: &mut S,
     ) -> Result<Judgement, Refusal>
-        ensures refuses { settled result ≡ judge_refusal (length (states_of self.now.sheet)) (length (rows_of self.now.sheet)) line (length work.old) S.room }
-        ensures answered { settled result ≡ line_refusal (model_of self.now.sheet) line (length work.old) S.room }
+        ensures refuses { settled result ≡ judge_refusal (length (states_of self.now.sheet)) (length (rows_of self.now.sheet)) line (length work.old) S.CAPACITY }
+        ensures answered { settled result ≡ line_refusal (model_of self.now.sheet) line (length work.old) S.CAPACITY }
         ensures unchanged { OnErr result (set.new ≡ set.old) }
         ensures verdict { IfOk result (λ j. j.verdict ≡ starts_in (length (states_of self.now.sheet)) (states_of self.now.sheet) (S.holds set.new)) }
         ensures judged { IfOk result (Judged (model_of self.now.sheet) line (S.holds set.new)) }
@@ -88,7 +88,7 @@ impl Bench {
         set: &mut S,
         out: &mut [u8],
     ) -> Result<usize, Refusal>
-        ensures value { result ≡ report_answer (model_of self.now.sheet) (length work.old) (length out.old) S.room }
+        ensures value { result ≡ report_answer (model_of self.now.sheet) (length work.old) (length out.old) S.CAPACITY }
         ensures text { out.new ≡ filled result (report_text (model_of self.now.sheet)) out.old }
         ensures unchanged { OnErr result ((set.new ≡ set.old) × (out.new ≡ out.old)) }
         ensures done { IfOk result (λ n. (n ≤ length out.new) × ((k : ℕ) → S.holds set.new k ≡ false)) }

@@ -12,7 +12,7 @@ pub(crate) const INACCESSIBLE: &[u8] =
 pub(crate) fn chain(heap: Global, states: usize) -> Result<String, AllocError> {
     let mut text = format!(in heap; "H,1,2,0,{states},1\n")?;
     for state in 0..states {
-        let start = if state == 0 { 1 } else { 0 };
+        let start = u8::from(state == 0);
         text.push_str(format!(in heap; "S,{state},{start},1\n")?.as_str())?;
     }
     for state in 0..states {

@@ -9,12 +9,7 @@ use texts::refusal::Refusal;
 /// Whether a set has just the states that are set in the bits of `members`, of those below 128.
 fn has_just<S: StateSet>(set: &S, members: u128) -> bool {
     let expected = BitSet::from_bits(members);
-    for state in 0..128 {
-        if set.has(state) != expected.has(state) {
-            return false;
-        }
-    }
-    true
+    (0..128).all(|state| set.has(state) == expected.has(state))
 }
 
 /// Judges a line on a set that holds something else before, and compares the answer and the set.

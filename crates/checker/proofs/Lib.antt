@@ -1,4 +1,3 @@
 pub mod AccessParts
 pub mod Evaluated
-pub mod Sharing
 pub mod SameAccess

@@ -1,6 +1,7 @@
 -- Access by the program's tables is access on the sheet that they hold.
-use Rattle.std.proofs.Common.{◌≡◌, ℕ, ◌<◌, ◌≤◌, Bool, true, false, cond, not, ◌&&◌, eqb, ltb, length, refl, sym, ap, ◌∙◌, inl, inr, arith}
+use Rattle.std.proofs.Common.{◌≡◌, ℕ, ◌<◌, ◌≤◌, Bool, true, false, cond, not, ◌&&◌, eqb, ltb, length, get_or, refl, sym, ap, ◌∙◌, inl, inr, arith}
 use mathlib.Core.Path.{fun_ext}
+use Rattle.std.proofs.Math.Bool.{and_assoc}
 use Rattle.std.proofs.lemmas.Bool.{and_parts, cases_Bool, lt-ltb, ltb-true, ltb-false, false≢true}
 use Rattle.std.proofs.lemmas.Bool.Decides.{same_from_decides, Decides-like}
 use Rattle.semantics.specs.Access.{implies, access}
@@ -8,12 +9,14 @@ use Rattle.semantics.specs.Sets.{all}
 use Rattle.semantics.specs.Sheets.{shares}
 use Rattle.semantics.proofs.Quantifiers.{all_says, any_says}
 use Rattle.sheets.specs.declared.sheet.Sheet.{Sheet}
+use Rattle.sheets.specs.declared.parts.State.{State}
 use Rattle.sheets.specs.Fits.{Fits}
 use Rattle.sheets.specs.Holding.{held, share_some}
-use Rattle.sheets.specs.Model.{local_at, model_of}
+use Rattle.sheets.specs.Model.{model_of}
+use Rattle.sheets.specs.Moves.{no_state}
 use Rattle.sheets.specs.Sheets.{states_of}
 use Rattle.sheets.proofs.Model.{held_within, free_channel, shares_any, shares_is}
-use Rattle.checker.specs.Access.{agreed, all_agreed, same_position, accessible}
+use Rattle.checker.specs.Access.{local_of, agreed, all_agreed, same_position, accessible}
 use Rattle.checker.proofs.AccessParts.{allows, access_is}
 
 -- a copy counts only where its channel is held
@@ -41,16 +44,18 @@ guarded : (a b x y : Bool) → a ≡ b → (a ≡ true → x ≡ y) → (a && x)
 guarded true b x y e f = f refl ∙ ap (λ c. c && y) e
 guarded false b x y e f = ap (λ c. c && y) e
 
-both_states : (a b r : Bool) → (a && (b && r)) ≡ ((a && b) && r)
-both_states true b r = refl
-both_states false b r = refl
-
 module _ (s : Sheet) (f : Fits s) (i j x t : ℕ) where
-  agreed_is : (c : ℕ) → agreed s.holders (states_of s) i j x t c ≡ allows (model_of s) i j x t c
+  abbrev from : State
+  from = get_or (states_of s) x no_state
+
+  abbrev to : State
+  to = get_or (states_of s) t no_state
+
+  agreed_is : (c : ℕ) → agreed s.holders from to i j c ≡ allows (model_of s) i j x t c
   unfolding model_of
   agreed_is c = channel (held s.holders c i) (held s.holders c j) _ _ _ _
 
-  all_agreed_is : all_agreed 8 s.holders (states_of s) i j x t ≡ all (model_of s).channels (allows (model_of s) i j x t)
+  all_agreed_is : all_agreed 8 s.holders from to i j ≡ all (model_of s).channels (allows (model_of s) i j x t)
   unfolding all_agreed model_of
   all_agreed_is = ap (all 8) (fun_ext agreed_is)
       ∙ all_wider (allows (model_of s) i j x t) s.header.channels 8 s.few_channels
@@ -62,11 +67,11 @@ module _ (s : Sheet) (f : Fits s) (i j x t : ℕ) where
       let c = (any_says 8 (λ c. held s.holders c i && held s.holders c j)).0 (sym (shares_any s.holders i j 8) ∙ on) in
       (held_within _ _ s.holders f.holders_exist c.0 i (and_parts _ _ c.2).0).1
 
-  positions_are : share_some 8 s.holders i j ≡ true → same_position (states_of s) i x t ≡ eqb ((model_of s).position x i) ((model_of s).position t i)
+  positions_are : share_some 8 s.holders i j ≡ true → same_position from to i ≡ eqb ((model_of s).position x i) ((model_of s).position t i)
   unfolding model_of
   positions_are on =
       let within = lt-ltb i s.header.parties (sharing_party on) in
-      sym (ap (λ b. eqb (cond b (local_at (states_of s) x i).position 0) (cond b (local_at (states_of s) t i).position 0)) within)
+      sym (ap (λ b. eqb (cond b (local_of from i).position 0) (cond b (local_of to i).position 0)) within)
 
   states_same : length (states_of s) ≡ (model_of s).states
   unfolding model_of
@@ -76,10 +81,10 @@ module _ (s : Sheet) (f : Fits s) (i j x t : ℕ) where
   same_at =
       let h = model_of s in
       let rest = shares h i j && (eqb (h.position x i) (h.position t i) && all h.channels (allows h i j x t)) in
-      both_states (ltb x (length (states_of s))) (ltb t (length (states_of s))) (share_some 8 s.holders i j && (same_position (states_of s) i x t && all_agreed 8 s.holders (states_of s) i j x t))
+      sym (and_assoc (ltb x (length (states_of s))) (ltb t (length (states_of s))) _)
       ∙ ap (λ b. (ltb x (length (states_of s)) && ltb t (length (states_of s))) && b)
       (guarded (share_some 8 s.holders i j) (shares h i j) _ _ (shares_is s f i j)
-      (λ on. ap (λ p. p && all_agreed 8 s.holders (states_of s) i j x t) (positions_are on)
+      (λ on. ap (λ p. p && all_agreed 8 s.holders from to i j) (positions_are on)
       ∙ ap (λ a. eqb (h.position x i) (h.position t i) && a) all_agreed_is))
       ∙ ap (λ n. (ltb x n && ltb t n) && rest) states_same
       ∙ sym (access_is h i j x t)

@@ -1,4 +1,4 @@
-ghost use Rattle.std.specs.Prelude.{◌≡◌, ℕ, ◌<◌, Bool, length};
+ghost use Rattle.std.specs.Prelude.{◌≡◌, ◌<◌};
 ghost use Rattle.checker.specs.Access.{agreed, all_agreed, same_position, accessible};
 
 use search::StepRule;
@@ -17,48 +17,38 @@ pub struct Access<'a> {
 
 impl Access<'_> {
     /// Whether the copies of a channel allow the step from one state to the other.
-    fn agrees(&self, from: usize, to: usize, channel: usize) -> bool
-        requires states { (from < length self.now.states.now) × (to < length self.now.states.now) }
-        requires parties { (self.now.debtor < 6) × (self.now.creditor < 6) × (channel < 8) }
-        ensures { result ≡ agreed self.now.holders.now self.now.states.now self.now.debtor self.now.creditor from to channel }
+    fn agrees(&self, before: &State, after: &State, channel: usize) -> bool
+        ensures { result ≡ agreed self.now.holders.now before.now after.now self.now.debtor self.now.creditor channel }
     {
-        let debtor_before = self.states[from].locals[self.debtor].copies[channel];
-        let debtor_after = self.states[to].locals[self.debtor].copies[channel];
-        let creditor_before = self.states[from].locals[self.creditor].copies[channel];
-        let creditor_after = self.states[to].locals[self.creditor].copies[channel];
+        let (debtor, creditor) = (self.debtor, self.creditor);
+        let copy = |state: &State, party: usize| state.locals[party].copies[channel];
         match (
-            self.holders.has(channel, self.debtor),
-            self.holders.has(channel, self.creditor),
+            self.holders.has(channel, debtor),
+            self.holders.has(channel, creditor),
         ) {
-            (true, true) => debtor_before == debtor_after && debtor_before == creditor_after,
-            (true, false) => debtor_before == debtor_after,
-            (false, true) => creditor_before == creditor_after,
+            (true, true) => {
+                copy(before, debtor) == copy(after, debtor)
+                    && copy(before, debtor) == copy(after, creditor)
+            }
+            (true, false) => copy(before, debtor) == copy(after, debtor),
+            (false, true) => copy(before, creditor) == copy(after, creditor),
             (false, false) => true,
         }
     }
 
-    /// Whether the debtor keeps its position.
-    fn keeps_position(&self, from: usize, to: usize) -> bool
-        requires states { (from < length self.now.states.now) × (to < length self.now.states.now) }
-        requires parties { (self.now.debtor < 6) × (self.now.creditor < 6) }
-        ensures { result ≡ same_position self.now.states.now self.now.debtor from to }
+    /// Whether the copies of all channels allow the step.
+    fn all_agree(&self, before: &State, after: &State) -> bool
+        ensures { result ≡ all_agreed 8 self.now.holders.now before.now after.now self.now.debtor self.now.creditor }
     {
-        self.states[from].locals[self.debtor].position
-            == self.states[to].locals[self.debtor].position
+        (0..8).all(|channel| self.agrees(before, after, channel))
     }
 
-    /// Whether the copies of all channels allow the step.
-    fn all_agree(&self, from: usize, to: usize) -> bool
-        requires states { (from < length self.now.states.now) × (to < length self.now.states.now) }
-        requires parties { (self.now.debtor < 6) × (self.now.creditor < 6) }
-        ensures { result ≡ all_agreed 8 self.now.holders.now self.now.states.now self.now.debtor self.now.creditor from to }
+    /// Whether the debtor keeps its position.
+    fn keeps_position(&self, before: &State, after: &State) -> bool
+        requires { self.now.debtor < 6 }
+        ensures { result ≡ same_position before.now after.now self.now.debtor }
     {
-        for channel in 0..8 {
-            if !self.agrees(from, to, channel) {
-                return false;
-            }
-        }
-        true
+        before.locals[self.debtor].position == after.locals[self.debtor].position
     }
 }
 
@@ -66,12 +56,14 @@ impl StepRule for Access<'_> {
     ghost steps = { λ rule. accessible rule.holders.now rule.states.now rule.debtor rule.creditor };
 
     fn leads(&self, from: usize, to: usize) -> bool {
-        if from >= self.states.len() || to >= self.states.len() {
+        let Some(before) = self.states.get(from) else {
             return false;
-        }
-        if !self.holders.share(self.debtor, self.creditor) {
+        };
+        let Some(after) = self.states.get(to) else {
             return false;
-        }
-        self.keeps_position(from, to) && self.all_agree(from, to)
+        };
+        self.holders.share(self.debtor, self.creditor)
+            && self.keeps_position(before, after)
+            && self.all_agree(before, after)
     }
 }

@@ -1,15 +1,16 @@
 -- A loop that puts the states below s that pass into a set, and on a stack those that were not in it.
-use Rattle.std.proofs.Common.{◌≡◌, ℕ, ◌+◌, ◌<◌, ◌≤◌, Bool, true, false, cond, not, ◌&&◌, ◌||◌, eqb, ltb, List, [], ◌∷◌, ◌++◌, length, sym, refl, ap, ◌∙◌, inl, inr, append-nil, arith}
-use Rattle.std.proofs.lemmas.Bool.{and_parts, cases_Bool, cond-true, eq-eqb, eqb-true, le-ltb, lt-ltb, not-true, or_left}
+use Rattle.std.proofs.Common.{◌≡◌, ℕ, ◌+◌, ◌<◌, ◌≤◌, Bool, true, false, cond, not, ◌&&◌, ◌||◌, eqb, ltb, List, [], ◌∷◌, ◌++◌, length, sym, refl, ap, ◌∙◌, inl, inr, arith}
+use Rattle.std.proofs.lemmas.Bool.{and_parts, cases_Bool, cond-true, eq-eqb, eqb-true, lt-ltb, not-true, or_left}
+use Rattle.std.proofs.lemmas.List.Folds.{list_any-append}
 use Rattle.std.proofs.lemmas.Bool.Decides.{nat_tests}
 use Rattle.sets.specs.Member.{plus}
 use Rattle.semantics.specs.Sets.{Same, outside}
 use Rattle.semantics.proofs.Counts.{count_falls}
 use Rattle.sets.proofs.MemberLaws.{cond_on}
-use Rattle.fixpoints.specs.Rounds.{lacks}
+use Rattle.fixpoints.specs.Rounds.{among, lacks, list_below}
 use Rattle.search.specs.Stack.{contents, capacity}
 use Rattle.search.specs.declared.stack.Stack.{Stack}
-use Rattle.fixpoints.proofs.Lists.{Pushed, pushed_on, pushed_off}
+use Rattle.fixpoints.proofs.Lists.{Pushed, among_below, pushed_on, pushed_off}
 
 -- from the set z and the states xs of the stack, the loop has come to s
 pub record Adding (n size : ℕ) (p z : ℕ → Bool) (xs : List ℕ) (s : ℕ) (w : ℕ → Bool) (v : Stack ℕ) : Type 0 where
@@ -73,17 +74,15 @@ module _ (n size : ℕ) (p z : ℕ → Bool) (xs : List ℕ) (s : ℕ) (w : ℕ 
     size_is = m.size_is;
   }
 
-empty_range : (z l p : Bool) → l ≡ false → z ≡ (z || (l && p))
-empty_range true l p e = refl
-empty_range false l p e = grind (arith, e)
+listed_more : (w y a b l p : Bool) → a ≡ w → y ≡ (w || (l && p)) → b ≡ (a || (l && (not w && p))) → b ≡ y
+listed_more true y a b l p e i r = grind (arith, e, i, r)
+listed_more false y a b l p e i r = grind (arith, e, i, r)
 
-pub adding_first : (n size : ℕ) (p z : ℕ → Bool) (v : Stack ℕ) → length (contents v) + lacks n z ≤ n → capacity v ≡ size → Adding n size p z (contents v) 0 z v
-adding_first n size p z v le e = record {
-  in_set = λ k. empty_range (z k) (ltb k 0) (p k) (le-ltb k 0 (omega arith));
-  on_stack = sym (append-nil (contents v));
-  few = le;
-  size_is = e;
-}
+-- the stack still has the states of the set
+pub adding_listed : (n size : ℕ) (p z : ℕ → Bool) (xs : List ℕ) (s : ℕ) (w : ℕ → Bool) (v : Stack ℕ) → Adding n size p z xs s w v → Same (among xs) z → Same (among (contents v)) w
+adding_listed n size p z xs s w v m is k =
+    listed_more (z k) (w k) (among xs k) (among (contents v) k) (ltb k s) (p k) (is k) (m.in_set k)
+    (ap (λ v. among v k) m.on_stack ∙ list_any-append (eqb k) xs (list_below s (λ k. not (z k) && p k)) ∙ ap (λ v. among xs k || v) (among_below s (λ k. not (z k) && p k) k))
 
 -- the same at an equal set, stack or place
 pub adding_is : (n size : ℕ) (p z : ℕ → Bool) (xs : List ℕ) (s t : ℕ) (w y : ℕ → Bool) (v u : Stack ℕ)

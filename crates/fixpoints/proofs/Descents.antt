@@ -1,16 +1,20 @@
 -- A path from a state of an ordered list to ever earlier ones.
-use Rattle.std.proofs.Common.{◌≡◌, ℕ, zero, suc, ◌<◌, ◌≤◌, Bool, true, false, not, ◌&&◌, ◌||◌, ltb, List, [], ◌∷◌, ◌++◌, length, get_or, take, Some, None, sym, refl, ap, ◌∙◌, subst, inl, inr, arith, length-take}
+use Rattle.std.proofs.Common.{◌≡◌, ℕ, zero, suc, ◌<◌, ◌≤◌, Bool, true, false, cond, not, ◌&&◌, ◌||◌, ltb, List, [], ◌∷◌, ◌++◌, length, get_or, take, Some, None, sym, refl, ap, ◌∙◌, subst, inl, inr, arith, length-take}
 use Rattle.std.proofs.lemmas.List.{get_or_append_left, get_or_push, get_or-take, length_push}
-use Rattle.std.proofs.lemmas.Bool.{and_parts, both_ways, cases_eq, false≢true, ltb-true, or_cases}
+use Rattle.std.proofs.lemmas.List.Quantifiers.{position-Some}
+use Rattle.std.proofs.lemmas.Option.{none-some}
+use Rattle.std.proofs.lemmas.Bool.{and_parts, both_ways, cases_eq, false≢true, ltb-true, not_from_false, or_cases}
+use Rattle.std.specs.List.{list_any, position}
 use Rattle.search.specs.Stack.{contents, Behind}
 use Rattle.search.specs.declared.stack.Stack.{Stack}
-use Rattle.semantics.specs.Chains.{until_chain, settled}
+use Rattle.semantics.specs.Chains.{until_chain, rounds, settled}
 use Rattle.semantics.specs.Sets.{into}
 use Rattle.semantics.specs.Walks.{WalkBy, ReachingBy}
 use Rattle.semantics.proofs.Walks.{walk_one, walk_push}
 use Rattle.fixpoints.specs.Rounds.{among, into_list, Ordered}
 use Rattle.fixpoints.specs.Witnesses.{In, PathTo}
 use Rattle.fixpoints.proofs.Fronts.{front_of}
+use Rattle.fixpoints.proofs.Lists.{position_none}
 use Rattle.fixpoints.proofs.Orders.{among_at}
 
 -- the path p has come from s to the state at a place of the list xs, through states of f at later places
@@ -25,6 +29,19 @@ once : (steps : ℕ → ℕ → Bool) (f h : ℕ → Bool) (xs : List ℕ) → O
 once steps f h xs o i j lt l e =
     both_ways (among (take j xs) (get_or xs j 0)) (o.new j l)
     (ap (among (take j xs)) (sym e ∙ sym (get_or-take j xs i 0 lt)) ∙ among_at (take j xs) i (omega (arith, length-take j xs)))
+
+-- where a path goes on: not from h, to an earlier place that it leads to
+pub went_on : (on : Bool) (p : ℕ → Bool) (xs : List ℕ) (place b : ℕ) → Some b ≡ cond on None (position p (take place xs)) → (b < place) × (on ≡ false) × (p (get_or xs b 0) ≡ true)
+went_on true p xs place b e = absurd (none-some b (sym e))
+went_on false p xs place b e =
+    let r = position-Some p (take place xs) b 0 (sym e) in
+    let lt : b < place = omega (arith, r.0, length-take place xs) in
+    (lt, refl, ap p (sym (get_or-take place xs b 0 lt)) ∙ r.1)
+
+-- where it does not: it is at h, or leads to no earlier place
+pub stopped : (on : Bool) (p : ℕ → Bool) (xs : List ℕ) (place : ℕ) → None ≡ cond on None (position p (take place xs)) → (on || not (list_any p (take place xs))) ≡ true
+stopped true p xs place e = refl
+stopped false p xs place e = not_from_false _ (position_none p (take place xs) (sym e))
 
 -- where a path cannot go on, it has come to h
 pub at_goal : (a b c : Bool) → (a || (b && c)) ≡ true → (a || not c) ≡ true → a ≡ true
@@ -84,12 +101,16 @@ module _ (n : ℕ) (steps : ℕ → ℕ → Bool) (f h : ℕ → Bool) (xs : Lis
     }
 
 -- the states of the chain are below n
-pub until_below : (n : ℕ) (steps : ℕ → ℕ → Bool) (f h : ℕ → Bool) (i k : ℕ) → until_chain n steps f h i k ≡ true → k < n
+until_below : (n : ℕ) (steps : ℕ → ℕ → Bool) (f h : ℕ → Bool) (i k : ℕ) → until_chain n steps f h i k ≡ true → k < n
 until_below n steps f h zero k e = ltb-true k n (and_parts (ltb k n) (h k) e).0
 until_below n steps f h (suc i) k e = elim (or_cases (until_chain n steps f h i k) (ltb k n && (f k && into n steps (until_chain n steps f h i) k)) e) [
   | inl old ↦ until_below n steps f h i k old
   | inr new ↦ ltb-true k n (and_parts (ltb k n) _ new).0
 ]
+
+pub settled_below : (n : ℕ) (steps : ℕ → ℕ → Bool) (f h : ℕ → Bool) (k : ℕ) → settled n (until_chain n steps f h) k ≡ true → k < n
+unfolding settled
+settled_below n steps f h k e = until_below n steps f h (rounds n (until_chain n steps f h)) k e
 
 -- the path in a buffer that a stack w was laid over
 pub path_found : (n : ℕ) (steps : ℕ → ℕ → Bool) (f h : ℕ → Bool) (s : ℕ) (old : List ℕ) (v w : Stack ℕ) (k : ℕ) → settled n (until_chain n steps f h) s ≡ true →

@@ -1,5 +1,5 @@
 -- What a round of `globally` does to the set.
-use Rattle.std.proofs.Common.{◌≡◌, ℕ, zero, suc, ◌<◌, Bool, true, false, not, ◌&&◌, ◌||◌, ltb, sym, refl, ap, ◌∙◌, inl, inr, arith}
+use Rattle.std.proofs.Common.{◌≡◌, ℕ, zero, suc, ◌<◌, Bool, true, false, not, ◌&&◌, ltb, sym, refl, ap, ◌∙◌, inl, inr}
 use mathlib.Core.Path.{fun_ext}
 use Rattle.std.proofs.lemmas.Bool.{cases_Bool, and_parts, and_right, not-true, ltb-true, both_ways}
 use Rattle.semantics.specs.Sets.{Same, count, below, any, into}
@@ -14,11 +14,6 @@ stay : (z i : Bool) → (z && not i) ≡ false → (z && i) ≡ z
 stay true true e = refl
 stay true false e = sym e
 stay false i e = refl
-
--- a state that goes from the stack leaves the set
-pub gone : (z w a b e : Bool) → w ≡ (not e && z) → b ≡ (a || e) → (not a && w) ≡ (not b && z)
-gone z w true b e p q = grind (arith, p, q)
-gone z w false b e p q = grind (arith, p, q)
 
 -- taking out those below n that leave keeps the others
 pub round_keeps : (l z i : Bool) → (z ≡ true → l ≡ true) → (not (l && (z && not i)) && z) ≡ (z && i)

@@ -1,27 +1,33 @@
 -- Lists of states: `among`, `list_below`, and the stack that a loop fills.
-use Rattle.std.proofs.Common.{◌≡◌, ℕ, zero, suc, ◌+◌, ◌<◌, ◌≤◌, Bool, true, false, cond, not, ◌&&◌, ◌||◌, eqb, ltb, List, [], ◌∷◌, ◌++◌, length, sym, refl, ap, ◌∙◌, inl, inr, append_assoc, append-nil, add-one, arith, length-append}
-use Rattle.std.proofs.lemmas.Bool.{cases_Bool, cond-true, eqb-true, lt-ltb}
+use Rattle.std.proofs.Common.{◌≡◌, ℕ, zero, suc, ◌+◌, ◌<◌, ◌≤◌, Bool, true, false, cond, not, ◌&&◌, ◌||◌, eqb, ltb, List, [], ◌∷◌, ◌++◌, length, get_or, Some, None, sym, refl, ap, ◌∙◌, inl, inr, append_assoc, append-nil, add-one, arith, length-append}
+use Rattle.std.proofs.Math.Bool.{or-false}
+use Rattle.std.proofs.lemmas.Bool.{cases_Bool, cases_lt, cond-true, eqb-true, lt-ltb}
+use Rattle.std.proofs.lemmas.List.Elements.{All-from_get_or}
+use Rattle.std.proofs.lemmas.List.Folds.{list_any_none, list_any-append}
+use Rattle.std.proofs.lemmas.List.Quantifiers.{position-Some}
+use Rattle.std.proofs.lemmas.List.Sums.{fails_before_first}
+use Rattle.std.proofs.lemmas.Option.{none-some}
+use Rattle.std.specs.List.{list_any, position, position_or_len}
 use Rattle.std.proofs.lemmas.Bool.Decides.{nat_tests}
 use Rattle.semantics.specs.Sets.{Same, any}
 use Rattle.fixpoints.specs.Rounds.{among, lacks, list_below}
 use Rattle.search.specs.Stack.{contents, capacity}
 use Rattle.search.specs.declared.stack.Stack.{Stack}
 
-pub or_assoc : (a b c : Bool) → ((a || b) || c) ≡ (a || (b || c))
-or_assoc true b c = refl
-or_assoc false b c = refl
+-- where no place passes, nothing in the list does
+pub position_none : (p : ℕ → Bool) (xs : List ℕ) → position p xs ≡ None → list_any p xs ≡ false
+position_none p xs e = elim (cases_lt (position_or_len p xs) (length xs)) [
+  | inl lt ↦ absurd (none-some _ (sym e ∙ cond-true _ _ _ (lt-ltb _ _ lt)))
+  | inr ge ↦ list_any_none p xs (All-from_get_or (λ x. p x ≡ false) xs 0 (λ i l. fails_before_first p xs i 0 (omega (arith, ge, l))))
+]
 
-pub or_false : (a : Bool) → (a || false) ≡ a
-or_false true = refl
-or_false false = refl
-
-pub among_append : (xs ys : List ℕ) (k : ℕ) → among (xs ++ ys) k ≡ (among xs k || among ys k)
-among_append [] ys k = refl
-among_append (x ∷ xs) ys k = ap (λ v. eqb k x || v) (among_append xs ys k) ∙ sym (or_assoc (eqb k x) (among xs k) (among ys k))
+-- what stands at the place that is found
+pub place_found : (xs : List ℕ) (k p : ℕ) → Some p ≡ position (eqb k) xs → (p < length xs) × (get_or xs p 0 ≡ k)
+place_found xs k p e = let r = position-Some (eqb k) xs p 0 (sym e) in (r.0, sym (eqb-true k (get_or xs p 0) r.1))
 
 -- a list with x on top
 pub among_push : (xs ys : List ℕ) (x : ℕ) → ys ≡ xs ++ x ∷ [] → (k : ℕ) → among ys k ≡ (among xs k || eqb k x)
-among_push xs ys x e k = ap (λ v. among v k) e ∙ among_append xs (x ∷ []) k ∙ ap (λ v. among xs k || v) (or_false (eqb k x))
+among_push xs ys x e k = ap (λ v. among v k) e ∙ list_any-append (eqb k) xs (x ∷ []) ∙ ap (λ v. among xs k || v) (or-false (eqb k x))
 
 one_more : (p : ℕ → Bool) (n k : ℕ) (b : Bool) → p n ≡ b → ((ltb k n && p k) || among (cond b (n ∷ []) []) k) ≡ (ltb k (suc n) && p k)
 one_more p n k true e = elim (cases_Bool (eqb k n)) [
@@ -36,7 +42,7 @@ one_more p n k false e = elim (cases_Bool (eqb k n)) [
 pub among_below : (n : ℕ) (p : ℕ → Bool) (k : ℕ) → among (list_below n p) k ≡ (ltb k n && p k)
 among_below zero p k = grind (arith, nat_tests)
 among_below (suc n) p k =
-    among_append (list_below n p) (cond (p n) (n ∷ []) []) k ∙ ap (λ v. v || among (cond (p n) (n ∷ []) []) k) (among_below n p k) ∙ one_more p n k (p n) refl
+    list_any-append (eqb k) (list_below n p) (cond (p n) (n ∷ []) []) ∙ ap (λ v. v || among (cond (p n) (n ∷ []) []) k) (among_below n p k) ∙ one_more p n k (p n) refl
 
 -- the states of a set, all of which are below n
 pub among_members : (n : ℕ) (z : ℕ → Bool) (xs : List ℕ) → xs ≡ list_below n z → ((k : ℕ) → z k ≡ true → ltb k n ≡ true) → Same (among xs) z
@@ -81,16 +87,3 @@ pushed_off xs p s ys is off = rw (add-one, off, append-nil, is)
 -- the stack that a loop has filled with the numbers below s that pass
 abbrev pub Filling : ℕ → (ℕ → Bool) → ℕ → Stack ℕ → Type 0
 Filling size p s v = (capacity v ≡ size) × (length (contents v) ≤ s) × (Pushed [] p s (contents v))
-
-pub filled_on : (n size : ℕ) (p : ℕ → Bool) (s : ℕ) (v w : Stack ℕ) (r : Bool) → n ≤ size → s < n → Filling size p s v → true ≡ p s
-    → r ≡ ltb (length (contents v)) (capacity v) → contents w ≡ cond r (contents v ++ s ∷ []) (contents v)
-    → length (contents w) ≡ cond r (length (contents v) + 1) (length (contents v)) → capacity w ≡ capacity v → Filling size p (s + 1) w
-filled_on n size p s v w r fit lt m on is after len same =
-    let e : r ≡ true = is ∙ lt-ltb _ _ (omega (arith, m.0, m.1)) in (
-      same ∙ m.0,
-      omega (arith, m.1, len ∙ cond-true r _ _ e),
-      pushed_on [] p s (contents v) (contents w) m.2 (sym on) (after ∙ cond-true r _ _ e),
-    )
-
-pub filled_off : (size : ℕ) (p : ℕ → Bool) (s : ℕ) (v : Stack ℕ) → Filling size p s v → false ≡ p s → Filling size p (s + 1) v
-filled_off size p s v m off = (m.0, omega (arith, m.1), pushed_off [] p s (contents v) m.2 (sym off))

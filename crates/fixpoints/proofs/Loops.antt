@@ -1,7 +1,9 @@
 -- A path of steps inside a set, until one leads back to it.
-use Rattle.std.proofs.Common.{◌≡◌, ℕ, zero, suc, ◌+◌, ◌<◌, ◌≤◌, Bool, true, false, ◌||◌, eqb, List, [], ◌∷◌, ◌++◌, length, get_or, take, Some, None, Option, unwrap_or, sym, refl, ap, ◌∙◌, subst, inl, inr, arith}
+use Rattle.std.proofs.Common.{◌≡◌, ℕ, zero, suc, ◌+◌, ◌<◌, ◌≤◌, Bool, true, false, eqb, List, [], ◌∷◌, ◌++◌, length, get_or, take, Some, None, Option, IsSome, sym, refl, ap, ◌∙◌, subst, inl, inr, arith}
+use Rattle.std.proofs.Math.Bool.{or_comm}
 use Rattle.std.proofs.lemmas.List.{get_or_append_left, get_or_push, length_push}
-use Rattle.std.proofs.lemmas.Bool.{and_parts, both_ways, cases_eq}
+use Rattle.std.proofs.lemmas.Bool.{both_ways, cases_eq}
+use Rattle.std.specs.List.{position}
 use Rattle.search.specs.Next.{FirstStep}
 use Rattle.search.specs.Stack.{contents, Behind}
 use Rattle.search.specs.declared.stack.Stack.{Stack}
@@ -16,20 +18,13 @@ use Rattle.fixpoints.specs.Searches.{Inside}
 use Rattle.fixpoints.specs.Witnesses.{In, PathBack}
 use Rattle.fixpoints.proofs.Adding.{lacks_falls}
 use Rattle.fixpoints.proofs.Fronts.{front_of}
-use Rattle.fixpoints.proofs.Lists.{among_push}
+use Rattle.fixpoints.proofs.Lists.{among_push, place_found}
 use Rattle.fixpoints.proofs.Orders.{among_at}
-
-or_swap : (a b : Bool) → (a || b) ≡ (b || a)
-or_swap true true = refl
-or_swap true false = refl
-or_swap false true = refl
-or_swap false false = refl
 
 module _ (n : ℕ) (steps : ℕ → ℕ → Bool) (z : ℕ → Bool) where
   -- a state that leads into the set has a first step
-  pub first_inside : (s : ℕ) (r : Option ℕ) → Inside n steps z z → z s ≡ true → FirstStep n steps z s 0 r →
-      (unwrap_or r 0 < n) × (z (unwrap_or r 0) ≡ true) × (steps s (unwrap_or r 0) ≡ true)
-  first_inside s (Some t) closed on h = let ps = and_parts (z t) (steps s t) h.2 in (h.1, ps.0, ps.1)
+  pub first_inside : (s : ℕ) (r : Option ℕ) → Inside n steps z z → z s ≡ true → FirstStep n steps z s 0 r → IsSome r
+  first_inside s (Some t) closed on h = refl
   first_inside s None closed on h = absurd (both_ways _ (first_none n steps z s 0 refl h) (closed s on).2)
 
   -- the path p has come from s to t inside the set
@@ -40,7 +35,7 @@ module _ (n : ℕ) (steps : ℕ → ℕ → Bool) (z : ℕ → Bool) where
     pub few : length p + lacks n (among p) ≤ n
 
   one_fewer : (p : List ℕ) (t : ℕ) → t < n → among p t ≡ false → lacks n (among (p ++ t ∷ [])) < lacks n (among p)
-  one_fewer p t l off = lacks_falls n t (among p) (among (p ++ t ∷ [])) l off (λ k. among_push p (p ++ t ∷ []) t refl k ∙ or_swap (among p k) (eqb k t))
+  one_fewer p t l off = lacks_falls n t (among p) (among (p ++ t ∷ [])) l off (λ k. among_push p (p ++ t ∷ []) t refl k ∙ or_comm (among p k) (eqb k t))
 
   pub following_first : (s : ℕ) → s < n → z s ≡ true → Following s s (s ∷ [])
   following_first s l on = record {
@@ -49,6 +44,13 @@ module _ (n : ℕ) (steps : ℕ → ℕ → Bool) (z : ℕ → Bool) where
     stays = elim [ zero ↦ λ _. on | suc i ↦ λ m. absurd (omega arith) ];
     few = omega (arith, one_fewer [] s l refl, count_le n (outside (among [])));
   }
+
+  -- where t leads back to the path
+  pub following_back : (s t : ℕ) (p : List ℕ) → Following s t p → (u place : ℕ) → steps t u ≡ true → Some place ≡ position (eqb u) p →
+      LoopingBy n steps (In z) s (record { path = p; place = Some place })
+  following_back s t p m u place step e =
+      let at = place_found p u place e in
+      record { at = place; is_place = refl; within = at.0; walk = m.walk; throughout = m.stays; returns = λ i l. rw (m.here i l, at.1) step }
 
   module _ (s t : ℕ) (p : List ℕ) (m : Following s t p) (u : ℕ) (l : u < n) (on : z u ≡ true) (step : steps t u ≡ true) where
     pub following_falls : among p u ≡ false → lacks n (among (p ++ u ∷ [])) < lacks n (among p)

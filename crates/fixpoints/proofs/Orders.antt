@@ -1,13 +1,10 @@
 -- Lists in which each state leads to one before it.
-use Rattle.std.proofs.Common.{◌≡◌, ℕ, zero, suc, ◌+◌, ◌<◌, Bool, true, false, cond, ◌&&◌, ◌||◌, eqb, ltb, List, [], ◌∷◌, ◌++◌, length, get_or, take, sym, refl, ap, ◌∙◌, inl, inr, append_assoc, append-nil, arith}
-use Rattle.std.proofs.lemmas.List.{get_or_append_left, get_or_push, length_push, take_all, take-append-le, take_more}
-use Rattle.std.proofs.lemmas.Bool.{and_left, cases_eq, eq-eqb, eqb-true, false≢true, le-ltb, ne_eqb, or_cases, or_from, or_left, or_right}
+use Rattle.std.proofs.Common.{◌≡◌, ℕ, zero, suc, ◌<◌, Bool, true, false, cond, ◌&&◌, ◌||◌, eqb, ltb, List, [], ◌∷◌, ◌++◌, length, get_or, take, sym, refl, ap, ◌∙◌, inl, inr, append_assoc, append-nil, arith}
+use Rattle.std.proofs.lemmas.List.{get_or_append_left, get_or_push, length_push, take_all, take-append-le}
+use Rattle.std.proofs.lemmas.List.Folds.{list_any_at, list_any-append}
+use Rattle.std.proofs.lemmas.Bool.{and_left, cases_eq, eq-eqb, eqb-true, false≢true, le-ltb, or_cases, or_from, or_left, or_right}
 use Rattle.fixpoints.specs.Rounds.{among, into_list, list_below, Ordered}
-use Rattle.fixpoints.proofs.Lists.{among_append, among_below, among_push, or_assoc}
-
-pub into_append : (steps : ℕ → ℕ → Bool) (xs ys : List ℕ) (k : ℕ) → into_list steps (xs ++ ys) k ≡ (into_list steps xs k || into_list steps ys k)
-into_append steps [] ys k = refl
-into_append steps (x ∷ xs) ys k = ap (λ v. steps k x || v) (into_append steps xs ys k) ∙ sym (or_assoc (steps k x) (into_list steps xs k) (into_list steps ys k))
+use Rattle.fixpoints.proofs.Lists.{among_below}
 
 -- a step to a state of the list
 pub into_at : (steps : ℕ → ℕ → Bool) (xs : List ℕ) (k t : ℕ) → among xs t ≡ true → steps k t ≡ true → into_list steps xs k ≡ true
@@ -19,21 +16,7 @@ into_at steps (x ∷ xs) k t e s = elim (or_cases (eqb t x) (among xs t) e) [
 
 -- what stands at a place of a list is in it
 pub among_at : (xs : List ℕ) (i : ℕ) → i < length xs → among xs (get_or xs i 0) ≡ true
-among_at [] i l = absurd (omega arith)
-among_at (x ∷ xs) zero l = or_left (eqb x x) (among xs x) (eq-eqb x x refl)
-among_at (x ∷ xs) (suc i) l = or_right (eqb (get_or xs i 0) x) (among xs (get_or xs i 0)) (among_at xs i (omega arith))
-
--- one state more in front, and still not the one looked for
-pub among_take_none : (xs : List ℕ) (i k : ℕ) → i < length xs → among (take i xs) k ≡ false → (k ≡ get_or xs i 0 → ⊥) → among (take (i + 1) xs) k ≡ false
-among_take_none xs i k l off ne =
-    among_push (take i xs) (take (i + 1) xs) (get_or xs i 0) (take_more xs i 0 l) k ∙ or_from (among (take i xs) k) (eqb k (get_or xs i 0)) off (ne_eqb k (get_or xs i 0) ne)
-
--- one state more in front, and still no step
-pub into_take_none : (steps : ℕ → ℕ → Bool) (xs : List ℕ) (i k : ℕ) → i < length xs → into_list steps (take i xs) k ≡ false → steps k (get_or xs i 0) ≡ false →
-    into_list steps (take (i + 1) xs) k ≡ false
-into_take_none steps xs i k l off no_step =
-    ap (λ v. into_list steps v k) (take_more xs i 0 l) ∙ into_append steps (take i xs) (get_or xs i 0 ∷ []) k
-    ∙ or_from (into_list steps (take i xs) k) (steps k (get_or xs i 0) || false) off (or_from (steps k (get_or xs i 0)) false no_step refl)
+among_at xs i l = list_any_at (eqb (get_or xs i 0)) xs i 0 l (eq-eqb _ _ refl)
 
 module _ (steps : ℕ → ℕ → Bool) (f h : ℕ → Bool) where
   abbrev Grounded : List ℕ → ℕ → Type 0
@@ -61,7 +44,7 @@ module _ (steps : ℕ → ℕ → Bool) (f h : ℕ → Bool) where
   ordered_below (suc n) q xs o new on = rw (← append_assoc) (last (ordered_below n q xs o new on) (q n) refl)
     where
       fresh : q n ≡ true → among (xs ++ list_below n q) n ≡ false
-      fresh e = among_append xs (list_below n q) n ∙ or_from (among xs n) (among (list_below n q) n) (new n e) (among_below n q n ∙ and_left (ltb n n) (q n) (le-ltb n n (omega arith)))
+      fresh e = list_any-append (eqb n) xs (list_below n q) ∙ or_from (among xs n) (among (list_below n q) n) (new n e) (among_below n q n ∙ and_left (ltb n n) (q n) (le-ltb n n (omega arith)))
 
       reach : (a b s t : Bool) → (a || (b && s)) ≡ true → (a || (b && (s || t))) ≡ true
       reach true b s t e = refl
@@ -72,7 +55,7 @@ module _ (steps : ℕ → ℕ → Bool) (f h : ℕ → Bool) where
       last : Ordered steps f h (xs ++ list_below n q) → (b : Bool) → q n ≡ b → Ordered steps f h ((xs ++ list_below n q) ++ cond b (n ∷ []) [])
       last low true e =
           ordered_push (xs ++ list_below n q) n low (fresh e)
-          (ap (λ v. h n || (f n && v)) (into_append steps xs (list_below n q) n) ∙ reach (h n) (f n) (into_list steps xs n) (into_list steps (list_below n q) n) (on n e))
+          (ap (λ v. h n || (f n && v)) (list_any-append (steps n) xs (list_below n q)) ∙ reach (h n) (f n) (into_list steps xs n) (into_list steps (list_below n q) n) (on n e))
       last low false e = rw append-nil low
 
   -- at first: states of h alone

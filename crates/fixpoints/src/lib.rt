@@ -5,12 +5,12 @@ mod descent;
 mod globally_search;
 mod lasso;
 mod loop_search;
-mod room;
+mod small_graph;
 mod until_search;
 
 pub use descent::until_path;
 pub use globally_search::globally;
 pub use lasso::Lasso;
 pub use loop_search::globally_path;
-pub use room::NoRoom;
+pub use search::NoRoom;
 pub use until_search::until;

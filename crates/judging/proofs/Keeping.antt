@@ -40,14 +40,14 @@ module _ (s : Sheet) (f : Fits s) (k : ℕ) (l : k < length (rows_of s)) where
     pub row_rounds : rounds_of (model_of s) (sets_in work) (line_of row) ≡ line_rounds (model_of s) k
     row_rounds = ap (rounds_of (model_of s) (sets_in work)) row_is ∙ rounds_turn (model_of s) k l' (sets_in work) fits sets_are
 
-  pub kept_more : (work next : List ℕ) (m : ℕ → Bool) (n bits : ℕ) → Kept (model_of s) k work → Same m (line_set (model_of s) k) → n ≡ (model_of s).states →
-      Same (in_bits bits) (below n m) → 16 + 16 * k ≤ length work →
-      row_in next k ≡ cond (within work k) bits 0 → ((j : ℕ) → (j ≡ k → ⊥) → row_in next j ≡ row_in work j) → Kept (model_of s) (k + 1) next
-  kept_more work next m n bits kept set e same room here others j b = elim (cases_eq j k) [
-    | inl i ↦ (
-        ap (λ v. in_bits (row_in next v)) i
-        ∙ ap in_bits (here ∙ cond-true _ _ _ (lt-ltb k (length work / 16) (omega arith)))
-        ∙ fun_ext same ∙ ap (λ v. below v m) e ∙ ap (below (model_of s).states) (fun_ext set) ∙ line_below (model_of s) k l' fits
-        ∙ ap (line_set (model_of s)) (sym i))
-    | inr ne ↦ (ap in_bits (others j ne) ∙ kept j (omega (arith, ne)))
-  ]
+    pub kept_more : (next : List ℕ) (m : ℕ → Bool) (n bits : ℕ) → Same m (set_of (model_of s) (sets_in work) (line_of row)) → n ≡ (model_of s).states →
+        Same (in_bits bits) (below n m) → 16 + 16 * k ≤ length work →
+        row_in next k ≡ cond (within work k) bits 0 → ((j : ℕ) → (j ≡ k → ⊥) → row_in next j ≡ row_in work j) → Kept (model_of s) (k + 1) next
+    kept_more next m n bits set e same room here others j b = elim (cases_eq j k) [
+      | inl i ↦ (
+          ap (λ v. in_bits (row_in next v)) i
+          ∙ ap in_bits (here ∙ cond-true _ _ _ (lt-ltb k (length work / 16) (omega arith)))
+          ∙ fun_ext same ∙ ap (λ v. below v m) e ∙ ap (below (model_of s).states) (fun_ext set ∙ row_set) ∙ line_below (model_of s) k l' fits
+          ∙ ap (line_set (model_of s)) (sym i))
+      | inr ne ↦ (ap in_bits (others j ne) ∙ kept j (omega (arith, ne)))
+    ]

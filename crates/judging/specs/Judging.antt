@@ -19,13 +19,23 @@ start_in ss m s = not (slice_index_or ss s no_state).start || m s
 abbrev pub starts_in : ℕ → List State → (ℕ → Bool) → Bool
 starts_in n ss m = all n (start_in ss m)
 
--- blank sheet, no such line, short work buffer, set too small, in this order
+-- a call that judges: blank sheet, no such line, short work buffer, set too small, in this order
 abbrev pub judge_refusal : ℕ → ℕ → ℕ → ℕ → ℕ → Result Unit Refusal
 judge_refusal states rows line work room =
     cond (states == 0) (Err Blank)
     (cond (nat_le rows line) (Err NoSuchLine)
     (cond (nat_lt work 16384) (Err ShortBuffer)
     (cond (nat_lt room states) (Err SetTooSmall) (Ok tt))))
+
+-- the refusals by themselves: of a blank sheet and a line that it lacks, of a work buffer, and of a set
+abbrev pub row_refusal : ℕ → ℕ → ℕ → Result Unit Refusal
+row_refusal states rows line = cond (states == 0) (Err Blank) (cond (nat_le rows line) (Err NoSuchLine) (Ok tt))
+
+abbrev pub work_refusal : ℕ → Result Unit Refusal
+work_refusal work = cond (nat_lt work 16384) (Err ShortBuffer) (Ok tt)
+
+abbrev pub set_refusal : ℕ → ℕ → Result Unit Refusal
+set_refusal states room = cond (nat_lt room states) (Err SetTooSmall) (Ok tt)
 
 -- the same, of a sheet
 abbrev pub line_refusal : Sheet → ℕ → ℕ → ℕ → Result Unit Refusal

@@ -3,3 +3,4 @@
 
 pub mod judge;
 pub mod reporting;
+mod work_buffer;

@@ -1,35 +1,19 @@
 -- What the tables have after each line.
-use Rattle.std.proofs.Common.{◌≡◌, ℕ, ◌<◌, Bool, true, false, cond, eqb, ltb, List, [], ◌∷◌, ◌++◌, length, get_or, set, sym, ap, ◌∙◌, inl, inr, arith}
-use Rattle.std.proofs.lemmas.List.{get_or_read, get_or_push, get_or_append_left, get_or_past, length_push}
+use Rattle.std.proofs.Common.{◌≡◌, ℕ, ◌<◌, Bool, true, false, cond, eqb, ltb, List, [], ◌∷◌, ◌++◌, length, get_or, set, take, sym, ap, ◌∙◌, inl, inr, arith}
+use Rattle.std.proofs.lemmas.List.{get_or_push, get_or_append_left, get_or_past, length_push}
 use Rattle.std.proofs.lemmas.Bool.{and_parts, and_from, cases_lt, cases_eq, or_cases, eqb-true, lt-ltb}
+use Rattle.std.proofs.Math.Seq.{take-append_seam}
 use Rattle.semantics.specs.Sets.{Same, has_step}
 use Rattle.semantics.proofs.Quantifiers.{any_says, all_says}
 use Rattle.sets.specs.Member.{plus}
-use Rattle.sheets.specs.declared.parts.Local.{Local}
 use Rattle.sheets.specs.declared.parts.State.{State}
-use Rattle.sheets.specs.Fitting.{local_fits, state_fits, states_fit}
 use Rattle.sheets.specs.Moves.{no_state, move_in, move_within, all_move}
-use Rattle.sheets.proofs.Filling.{at_set, local_set, moves_set, fit_set}
-use Rattle.sheets.proofs.Validity.{fits_at}
+use Rattle.sheets.proofs.Filling.{at_set}
 use Rattle.reader.specs.Reading.{Unmoved}
 
--- state x stands at place i
-module _ (marks : ℕ) (ss : List State) (i : ℕ) (x : State) (l : i < length ss) (is : x ≡ get_or ss i x) where
-  pub at_place : x ≡ get_or ss i no_state
-  at_place = get_or_read ss i x l is no_state
-
-  fits : states_fit marks ss ≡ true → state_fits marks x ≡ true
-  fits e = ap (state_fits marks) at_place ∙ fits_at marks ss i e
-
-  pub known_more : (t : State) (p : ℕ) (v : Local) → states_fit marks ss ≡ true → local_fits v ≡ true → t.marks ≡ x.marks → t.locals ≡ set x.locals p v → states_fit marks (set ss i t) ≡ true
-  known_more t p v e f em el = fit_set marks ss i t e (local_set marks x t p v (fits e) f em el)
-
-  pub moved_more : (t : State) → states_fit marks ss ≡ true → t.marks ≡ x.marks → t.locals ≡ x.locals → states_fit marks (set ss i t) ≡ true
-  moved_more t e em el = fit_set marks ss i t e (moves_set marks x t (fits e) em el)
-
-  pub unmoved_set : (t : State) → Unmoved ss → t.successors ≡ x.successors → Unmoved (set ss i t)
-  unmoved_set t none e k =
-      at_set (λ (s : State). s.successors.bits ≡ 0) ss i k t no_state (ap (λ b. b.bits) e ∙ ap (λ (s : State). s.successors.bits) at_place ∙ none i) (none k)
+-- another state at place i, with the moves of the one that was there
+pub unmoved_set : (ss : List State) (i : ℕ) (t : State) → Unmoved ss → t.successors ≡ (get_or ss i no_state).successors → Unmoved (set ss i t)
+unmoved_set ss i t none e k = at_set (λ (s : State). s.successors.bits ≡ 0) ss i k t no_state (ap (λ b. b.bits) e ∙ none i) (none k)
 
 pub unmoved_push : (ss : List State) (t : State) → Unmoved ss → t.successors.bits ≡ 0 → Unmoved (ss ++ t ∷ [])
 unmoved_push ss t none e k = elim (cases_lt k (length ss)) [
@@ -39,6 +23,10 @@ unmoved_push ss t none e k = elim (cases_lt k (length ss)) [
     | inr ne ↦ ap (λ (s : State). s.successors.bits) (get_or_past (ss ++ t ∷ []) k no_state (omega (arith, length_push ss t, ne)))
   ]
 ]
+
+-- a whole list of n items, whatever is behind them
+pub take-append-whole : {X : Type 0} (n : ℕ) (xs ys : List X) → n ≡ length xs → take n (xs ++ ys) ≡ xs
+take-append-whole n xs ys e = ap (λ k. take k (xs ++ ys)) e ∙ take-append_seam xs ys
 
 -- a set with x put in has no other state more
 pub put_adds : (r : Bool) (new old : ℕ → Bool) (x : ℕ) → Same new (cond r (plus old x) old) → (t : ℕ) → (t ≡ x → ⊥) → new t ≡ true → old t ≡ true

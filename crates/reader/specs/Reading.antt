@@ -7,6 +7,7 @@ use Rattle.texts.specs.Lines.{at}
 use Rattle.semantics.specs.Sets.{has_step}
 use Rattle.sheets.specs.declared.holders.Holders.{Holders}
 use Rattle.sheets.specs.declared.parts.Header.{Header}
+use Rattle.sheets.specs.declared.parts.Row.{Row}
 use Rattle.sheets.specs.declared.parts.State.{State}
 use Rattle.sheets.specs.declared.tables.Tables.{Tables}
 use Rattle.sheets.specs.Fitting.{states_fit, any_start}
@@ -26,6 +27,22 @@ WholeStates ss (Err f) =
 -- no state has a move yet
 abbrev pub Unmoved : List State → Type 0
 Unmoved ss = (k : ℕ) → (slice_index_or ss k no_state).successors.bits ≡ 0
+
+-- the states of a header, whose moves are still to come
+pub record StatesRead (h : Header) (ss : List State) : Type 0 where
+  pub all : length ss ≡ h.states
+  pub fit : states_fit h.marks ss ≡ true
+  pub unmoved : Unmoved ss
+
+-- they fit, and have no more moves than a sheet may have
+pub record MovesRead (h : Header) (ss : List State) : Type 0 where
+  pub fit : states_fit h.marks ss ≡ true
+  pub few : move_count ss ≤ 1024
+
+-- the rows of a sheet
+pub record RowsRead (h : Header) (who : Holders) (rs : List Row) : Type 0 where
+  pub few : length rs ≤ 64
+  pub sound : sound_rows h who 0 rs ≡ true
 
 -- tables that belong to a header
 pub record Filled (h : Header) (who : Holders) (t : Tables) : Type 0 where

@@ -1,23 +1,20 @@
-ghost use Rattle.std.specs.Prelude.{◌≡◌, ℕ, ◌+◌, ◌<◌, ◌≤◌, true, [], IfOk, vec_len, OnErr, OnOk};
-ghost use Rattle.reader.specs.Readers.{Bounded};
+ghost use Rattle.std.specs.Prelude.{◌≡◌, true, IfOk, OnErr, OnOk};
+ghost use Rattle.std.specs.List.{list_any};
 ghost use Rattle.sheets.specs.Fits.{Fits};
-ghost use Rattle.sheets.specs.Fitting.{states_fit, any_start};
-ghost use Rattle.sheets.specs.Holding.{holders_within};
-ghost use Rattle.sheets.specs.Moves.{move_count};
-ghost use Rattle.sheets.specs.Rows.{sound_rows};
-ghost use Rattle.reader.specs.Reading.{WholeStates, Unmoved, Filled};
+ghost use Rattle.sheets.specs.Fitting.{state_fits};
+ghost use Rattle.reader.specs.Reading.{WholeStates, StatesRead, MovesRead, RowsRead, Filled};
 
-use crate::readers::{header_line, local_line, pair_line, state_line};
-use crate::row_reader::row_line;
-use search::lowest_without_step;
+use crate::front::Front;
+use crate::readers::{header_line, pair_line};
+use search::Graph;
 use sets::StateSet;
 use sheets::holders::Holders;
 use sheets::moves::Moves;
-use sheets::parts::{Header, State};
+use sheets::parts::State;
 use sheets::sheet::Sheet;
 use sheets::tables::Tables;
 use texts::lines::{Lines, check_whole};
-use texts::refusal::{Fault, Place, Refusal};
+use texts::refusal::{Fault, Refusal};
 
 /// How many bytes a sheet's text may have.
 const TEXT_LIMIT: usize = 65_536;
@@ -28,152 +25,110 @@ const MOVE_LIMIT: usize = 1024;
 /// How many formula lines a sheet may have.
 const ROW_LIMIT: usize = 64;
 
-/// Reads the C lines: who holds which channel.
-fn read_holders(lines: &mut Lines<'_>, header: Header) -> Result<Holders, Fault>
-    ensures { IfOk result (λ h. holders_within header.channels header.parties h ≡ true) }
-{
-    let mut holders = Holders::none();
-    let mut last = None;
-    while let Some(line) = lines.take(b'C') {
-        let holder = pair_line(
-            line,
-            u32::from(header.channels),
-            u32::from(header.parties),
-            last,
-        )?;
-        holders.add(holder.first as usize, holder.second as usize);
-        last = Some(holder);
-    }
-    Ok(holders)
-}
-
-/// Reads the S lines into the empty table of states.
-fn read_states(lines: &mut Lines<'_>, header: Header, tables: &mut Tables) -> Result<(), Fault>
-    requires bounded { Bounded header }
-    requires empty { tables.old.states.items ≡ [] }
-    ensures states { OnOk result (vec_len tables.new.states ≡ header.states) }
-    ensures fit { OnOk result (states_fit header.marks tables.new.states.items ≡ true) }
-    ensures unmoved { OnOk result (Unmoved tables.new.states.items) }
-    ensures rows { tables.new.rows.items ≡ tables.old.rows.items }
-{
-    for due in 0..header.states {
-        let line = lines.due(b'S')?;
-        tables.states.push_reserved(state_line(line, header, due)?);
-    }
-    Ok(())
-}
-
-/// Reads the L lines of one state.
-fn read_locals(
-    lines: &mut Lines<'_>,
-    header: Header,
-    holders: &Holders,
-    tables: &mut Tables,
-    state: u8,
-) -> Result<(), Fault>
-    requires bounded { Bounded header }
-    requires within { state < vec_len tables.old.states }
-    requires fit { states_fit header.marks tables.old.states.items ≡ true }
-    requires unmoved { Unmoved tables.old.states.items }
-    ensures states { vec_len tables.new.states ≡ vec_len tables.old.states }
-    ensures fit { states_fit header.marks tables.new.states.items ≡ true }
-    ensures unmoved { Unmoved tables.new.states.items }
-    ensures rows { tables.new.rows.items ≡ tables.old.rows.items }
-{
-    for party in 0..header.parties {
-        let line = lines.due(b'L')?;
-        let known = local_line(line, header, holders, state, party)?;
-        tables.states[usize::from(state)].locals[usize::from(party)] = known;
-    }
-    Ok(())
-}
-
-/// Reads the L lines of all states.
-fn read_all_locals(
-    lines: &mut Lines<'_>,
-    header: Header,
-    holders: &Holders,
-    tables: &mut Tables,
-) -> Result<(), Fault>
-    requires bounded { Bounded header }
-    requires states { vec_len tables.old.states ≡ header.states }
-    requires fit { states_fit header.marks tables.old.states.items ≡ true }
-    requires unmoved { Unmoved tables.old.states.items }
-    ensures states { vec_len tables.new.states ≡ header.states }
-    ensures fit { states_fit header.marks tables.new.states.items ≡ true }
-    ensures unmoved { Unmoved tables.new.states.items }
-    ensures rows { tables.new.rows.items ≡ tables.old.rows.items }
-{
-    for state in 0..header.states {
-        read_locals(lines, header, holders, tables, state)?;
-    }
-    Ok(())
-}
-
-/// Reads the T lines: the moves.
-fn read_moves(lines: &mut Lines<'_>, header: Header, tables: &mut Tables) -> Result<(), Fault>
-    requires states { vec_len tables.old.states ≡ header.states }
-    requires fit { states_fit header.marks tables.old.states.items ≡ true }
-    requires unmoved { Unmoved tables.old.states.items }
-    ensures states { vec_len tables.new.states ≡ header.states }
-    ensures fit { states_fit header.marks tables.new.states.items ≡ true }
-    ensures few { move_count tables.new.states.items ≤ 1024 }
-    ensures rows { tables.new.rows.items ≡ tables.old.rows.items }
-{
-    let mut last = None;
-    let mut count = 0;
-    while let Some(line) = lines.take(b'T') {
-        if count >= MOVE_LIMIT {
-            return Err(line.fault(Refusal::TooManyLines, 0));
+impl Front {
+    /// Reads the H line, and the C lines: who holds which channel.
+    fn read(lines: &mut Lines<'_>) -> Result<Front, Fault> {
+        let header = header_line(lines.due(b'H')?)?;
+        let mut holders = Holders::none();
+        let mut last = None;
+        while let Some(line) = lines.take(b'C') {
+            let holder = pair_line(
+                line,
+                u32::from(header.channels),
+                u32::from(header.parties),
+                last,
+            )?;
+            holders.add(holder.first as usize, holder.second as usize);
+            last = Some(holder);
         }
-        let step = pair_line(
-            line,
-            u32::from(header.states),
-            u32::from(header.states),
-            last,
-        )?;
-        let _ = tables.states[step.first as usize]
-            .successors
-            .put(step.second as usize);
-        last = Some(step);
-        count += 1;
+        Ok(Front { header, holders })
     }
-    Ok(())
-}
 
-/// Reads the F lines into the empty table of rows.
-fn read_rows(
-    lines: &mut Lines<'_>,
-    header: Header,
-    holders: &Holders,
-    tables: &mut Tables,
-) -> Result<(), Fault>
-    requires empty { tables.old.rows.items ≡ [] }
-    ensures states { tables.new.states ≡ tables.old.states }
-    ensures rows { OnOk result ((vec_len tables.new.rows ≤ 64) × (sound_rows header holders.now 0 tables.new.rows.items ≡ true)) }
-{
-    while let Some(line) = lines.take(b'F') {
-        let due = tables.rows.len();
-        if due >= ROW_LIMIT {
-            return Err(line.fault(Refusal::TooManyLines, 0));
+    /// Reads the S lines into the table of states.
+    fn read_states(&self, lines: &mut Lines<'_>, tables: &mut Tables) -> Result<(), Fault>
+        ensures { OnOk result (StatesRead self.now.header tables.new.states.items) }
+    {
+        tables.states.clear();
+        for due in 0..self.header.states {
+            let line = lines.due(b'S')?;
+            tables.states.push_reserved(self.state_line(line, due)?);
         }
-        tables
-            .rows
-            .push_reserved(row_line(line, header, holders, due as u8)?);
+        Ok(())
     }
-    Ok(())
+
+    /// Reads the L lines of one state.
+    fn read_locals(&self, lines: &mut Lines<'_>, state: &mut State, number: u8) -> Result<(), Fault>
+        requires { state_fits self.now.header.marks state.old ≡ true }
+        ensures fits { state_fits self.now.header.marks state.new ≡ true }
+        ensures moves { state.new.successors ≡ state.old.successors }
+    {
+        for party in 0..self.header.parties {
+            let line = lines.due(b'L')?;
+            // By its place: of elements that `iter_mut` gives under `zip` a proof knows nothing.
+            state.locals[usize::from(party)] = self.local_line(line, number, party)?;
+        }
+        Ok(())
+    }
+
+    /// Reads the L lines of all states.
+    fn read_all_locals(&self, lines: &mut Lines<'_>, states: &mut [State]) -> Result<(), Fault>
+        requires { StatesRead self.now.header states.old }
+        ensures { OnOk result (StatesRead self.now.header states.new) }
+    {
+        for (number, state) in states.iter_mut().enumerate() {
+            self.read_locals(lines, state, number as u8)?;
+        }
+        Ok(())
+    }
+
+    /// Reads the T lines: the moves.
+    fn read_moves(&self, lines: &mut Lines<'_>, states: &mut [State]) -> Result<(), Fault>
+        requires { StatesRead self.now.header states.old }
+        ensures { OnOk result (MovesRead self.now.header states.new) }
+    {
+        let mut last = None;
+        let mut count = 0;
+        while let Some(line) = lines.take(b'T') {
+            if count >= MOVE_LIMIT {
+                return Err(line.fault(Refusal::TooManyLines, 0));
+            }
+            let step = pair_line(
+                line,
+                u32::from(self.header.states),
+                u32::from(self.header.states),
+                last,
+            )?;
+            let _ = states[step.first as usize]
+                .successors
+                .put(step.second as usize);
+            last = Some(step);
+            count += 1;
+        }
+        Ok(())
+    }
+
+    /// Reads the F lines into the table of rows.
+    fn read_rows(&self, lines: &mut Lines<'_>, tables: &mut Tables) -> Result<(), Fault>
+        ensures states { tables.new.states ≡ tables.old.states }
+        ensures rows { OnOk result (RowsRead self.now.header self.now.holders tables.new.rows.items) }
+    {
+        tables.rows.clear();
+        while let Some(line) = lines.take(b'F') {
+            let due = tables.rows.len();
+            if due >= ROW_LIMIT {
+                return Err(line.fault(Refusal::TooManyLines, 0));
+            }
+            tables.rows.push_reserved(self.row_line(line, due as u8)?);
+        }
+        Ok(())
+    }
 }
 
 /// Whether some state is a start.
 fn some_start(states: &[State]) -> bool
-    ensures { result ≡ any_start states.now }
+    ensures { result ≡ list_any (λ (s : State). s.start) states.now }
 {
-    for state in states {
-        if state.start {
-            return true;
-        }
-    }
-    false
+    states.iter().any(|state| state.start)
 }
 
 /// The checks that come after all lines: some start, and a move from every state.
@@ -181,27 +136,16 @@ fn check_states(states: &[State]) -> Result<(), Fault>
     ensures { WholeStates states.now result }
 {
     if !some_start(states) {
-        return Err(Fault {
-            refusal: Refusal::NoStart,
-            place: Place { line: 0, field: 0 },
-        });
+        return Err(Fault::new(Refusal::NoStart, 0, 0));
     }
-    match lowest_without_step(&Moves { states }, states.len()) {
-        Some(state) => Err(Fault {
-            refusal: Refusal::NoMove,
-            place: Place {
-                line: 0,
-                field: state,
-            },
-        }),
+    let moves = Graph {
+        rule: &Moves { states },
+        states: states.len(),
+    };
+    match moves.lowest_without_step() {
+        Some(state) => Err(Fault::new(Refusal::NoMove, 0, state)),
         None => Ok(()),
     }
-}
-
-/// What a sheet has beside its tables.
-struct Front {
-    header: Header,
-    holders: Holders,
 }
 
 /// Reads a sheet's text into the tables, whatever they held.
@@ -209,18 +153,16 @@ fn fill(tables: &mut Tables, text: &[u8]) -> Result<Front, Fault>
     ensures { IfOk result (λ f. Filled f.header f.holders tables.new) }
 {
     check_whole(text, TEXT_LIMIT)?;
-    tables.states.clear();
-    tables.rows.clear();
     let mut lines = Lines::new(text);
-    let header = header_line(lines.due(b'H')?)?;
-    let holders = read_holders(&mut lines, header)?;
-    read_states(&mut lines, header, tables)?;
-    read_all_locals(&mut lines, header, &holders, tables)?;
-    read_moves(&mut lines, header, tables)?;
-    read_rows(&mut lines, header, &holders, tables)?;
+    let front = Front::read(&mut lines)?;
+    front.read_states(&mut lines, tables)?;
+    let states = tables.states.as_mut_slice();
+    front.read_all_locals(&mut lines, states)?;
+    front.read_moves(&mut lines, states)?;
+    front.read_rows(&mut lines, tables)?;
     lines.finish()?;
-    check_states(tables.states.as_slice())?;
-    Ok(Front { header, holders })
+    check_states(&tables.states)?;
+    Ok(front)
 }
 
 /// Reads a sheet's text. The spare tables are then those of the sheet that was there, or hold nothing of

@@ -3,7 +3,7 @@ ghost use Rattle.sheets.specs.Operators.{kinds_of};
 ghost use Rattle.sheets.specs.Rows.{fits, sharing, sound_row};
 ghost use Rattle.reader.specs.RowFields.{operand_of, behind, operands_of, earlier_of, Within, AllWithin, checked_row, fields_of, row_of};
 
-use sheets::holders::Holders;
+use crate::front::Front;
 use sheets::operator::{Kind, Operator, operator_field};
 use sheets::parts::{Header, Row};
 use texts::field::field;
@@ -24,9 +24,9 @@ fn operand(
 {
     match kind {
         Kind::Absent => Ok(0),
-        Kind::Mark => line.number(field_number, 0, u32::from(header.marks)),
-        Kind::Party => line.number(field_number, 0, u32::from(header.parties)),
-        Kind::Line => line.number(field_number, 0, 100_000),
+        Kind::Mark => line.number(field_number, 0..u32::from(header.marks)),
+        Kind::Party => line.number(field_number, 0..u32::from(header.parties)),
+        Kind::Line => line.number(field_number, 0..100_000),
     }
 }
 
@@ -43,112 +43,100 @@ fn operands(line: &mut Line<'_>, kinds: [Kind; 3], header: Header) -> Result<[u3
     Ok([first, second, third])
 }
 
-/// The operand of the line numbered `due`, refused where it is a line that does not stand before it.
-fn earlier(
-    line: &Line<'_>,
-    kind: Kind,
-    field_number: usize,
-    header: Header,
+/// A formula line of a sheet, which is to be the line numbered `due`.
+#[derive(Drop)]
+struct RowReader<'a> {
+    front: &'a Front,
+    line: Line<'a>,
     due: u8,
-    operand: u32,
-) -> Result<u8, Fault>
-    requires { Within kind header operand }
-    ensures value { result ≡ earlier_of line.now.line field_number kind due operand }
-    ensures fits { IfOk result (λ x. fits kind header due x ≡ true) }
-{
-    match kind {
-        Kind::Line if operand >= u32::from(due) => Err(line.fault(
-            Refusal::NotEarlier,
-            field_number,
-        )),
-        _ => Ok(operand as u8),
-    }
 }
 
-/// Whether the debtor and the creditor share a channel, where the operator has such.
-fn shares(holders: &Holders, operator: Operator, debtor: u8, creditor: u8) -> bool
-    ensures { result ≡ sharing holders.now operator debtor creditor }
-{
-    match operator {
-        Operator::Commitment | Operator::Fulfilment => holders.share(
-            usize::from(debtor),
-            usize::from(creditor),
-        ),
-        _ => true,
+impl RowReader<'_> {
+    /// The operand, refused where it is a line that does not stand before this one.
+    fn earlier(&self, kind: Kind, field_number: usize, operand: u32) -> Result<u8, Fault>
+        requires { Within kind self.now.front.now.header operand }
+        ensures value { result ≡ earlier_of self.now.line.line field_number kind self.now.due operand }
+        ensures fits { IfOk result (λ x. fits kind self.now.front.now.header self.now.due x ≡ true) }
+    {
+        match kind {
+            Kind::Line if operand >= u32::from(self.due) => Err(
+                self.line.fault(Refusal::NotEarlier, field_number),
+            ),
+            _ => Ok(operand as u8),
+        }
     }
-}
 
-/// The row of the line numbered `due`, once its fields are known to be numbers in their ranges.
-fn checked_row(
-    line: &Line<'_>,
-    header: Header,
-    holders: &Holders,
-    due: u8,
-    operator: Operator,
-    operands: [u32; 3],
-) -> Result<Row, Fault>
-    requires { AllWithin (kinds_of operator) header operands }
-    ensures value { result ≡ checked_row line.now.line holders.now due operator operands }
-    ensures sound { IfOk result (λ row. sound_row header holders.now due row ≡ true) }
-{
-    let kinds = operator.kinds();
-    let first = earlier(line, kinds[0], 4, header, due, operands[0])?;
-    let second = earlier(line, kinds[1], 5, header, due, operands[1])?;
-    let third = earlier(line, kinds[2], 6, header, due, operands[2])?;
-    if !shares(holders, operator, first, second) {
-        return Err(line.fault(Refusal::NoSharedChannel, 5));
+    /// Whether the debtor and the creditor share a channel, where the operator has such.
+    fn shares(&self, operator: Operator, debtor: u8, creditor: u8) -> bool
+        ensures { result ≡ sharing self.now.front.now.holders operator debtor creditor }
+    {
+        match operator {
+            Operator::Commitment | Operator::Fulfilment => self
+                .front
+                .holders
+                .share(usize::from(debtor), usize::from(creditor)),
+            _ => true,
+        }
     }
-    Ok(Row {
-        operator,
-        operands: [first, second, third],
-    })
-}
 
-/// The fields of a formula line whose operator is known: its number, and those of `line` that are left.
-fn row_fields(
-    mut line: Line<'_>,
-    number: &[u8],
-    operator: Operator,
-    header: Header,
-    holders: &Holders,
-    due: u8,
-) -> Result<Row, Fault>
-    ensures value { result ≡ fields_of line.entry.line number.now line.entry.rest.now operator header holders.now due }
-    ensures sound { IfOk result (λ row. sound_row header holders.now due row ≡ true) }
-{
-    let number = field(
-        number,
-        0,
-        100_000,
-        Place {
-            line: line.line,
+    /// The row, once its fields are known to be numbers in their ranges.
+    fn checked_row(&self, operator: Operator, operands: [u32; 3]) -> Result<Row, Fault>
+        requires { AllWithin (kinds_of operator) self.now.front.now.header operands }
+        ensures value { result ≡ checked_row self.now.line.line self.now.front.now.holders self.now.due operator operands }
+        ensures sound { IfOk result (λ row. sound_row self.now.front.now.header self.now.front.now.holders self.now.due row ≡ true) }
+    {
+        let [first_kind, second_kind, third_kind] = operator.kinds();
+        let [first, second, third] = operands;
+        let first = self.earlier(first_kind, 4, first)?;
+        let second = self.earlier(second_kind, 5, second)?;
+        let third = self.earlier(third_kind, 6, third)?;
+        if !self.shares(operator, first, second) {
+            return Err(self.line.fault(Refusal::NoSharedChannel, 5));
+        }
+        Ok(Row {
+            operator,
+            operands: [first, second, third],
+        })
+    }
+
+    /// The row of a known operator: its number is given, and the fields that are left are its operands.
+    fn row(mut self, number: &[u8], operator: Operator) -> Result<Row, Fault>
+        ensures value { result ≡ fields_of self.entry.line.line number.now self.entry.line.rest.now operator self.entry.front.now.header self.entry.front.now.holders self.entry.due }
+        ensures sound { IfOk result (λ row. sound_row self.entry.front.now.header self.entry.front.now.holders self.entry.due row ≡ true) }
+    {
+        let place = Place {
+            line: self.line.line,
             field: 2,
-        },
-    )?;
-    let operands = operands(&mut line, operator.kinds(), header)?;
-    if number != u32::from(due) {
-        return Err(line.fault(Refusal::OutOfOrder, 2));
+        };
+        let number = field(number, 0..100_000, place)?;
+        let header = self.front.header;
+        let operands = operands(&mut self.line, operator.kinds(), header)?;
+        if number != u32::from(self.due) {
+            return Err(self.line.fault(Refusal::OutOfOrder, 2));
+        }
+        self.checked_row(operator, operands)
     }
-    checked_row(&line, header, holders, due, operator, operands)
 }
 
-/// The formula line numbered `due`, which is taken as far as its letter first.
-pub(crate) fn row_line(
-    mut line: Line<'_>,
-    header: Header,
-    holders: &Holders,
-    due: u8,
-) -> Result<Row, Fault>
-    ensures value { result ≡ row_of line.entry.line line.entry.count line.entry.rest.now header holders.now due }
-    ensures sound { IfOk result (λ row. sound_row header holders.now due row ≡ true) }
-{
-    if line.count < 3 {
-        return Err(line.fault(Refusal::FieldCount, 0));
+impl Front {
+    /// The formula line numbered `due`, which is taken as far as its letter first.
+    pub(crate) fn row_line(&self, mut line: Line<'_>, due: u8) -> Result<Row, Fault>
+        ensures value { result ≡ row_of line.entry.line line.entry.count line.entry.rest.now self.now.header self.now.holders due }
+        ensures sound { IfOk result (λ row. sound_row self.now.header self.now.holders due row ≡ true) }
+    {
+        if line.count < 3 {
+            return Err(line.fault(Refusal::FieldCount, 0));
+        }
+        let number = line.take();
+        let Some((operator, count)) = operator_field(line.take()) else {
+            return Err(line.fault(Refusal::NotANumber, 3));
+        };
+        line.expect(count)?;
+        let reader = RowReader {
+            front: self,
+            line,
+            due,
+        };
+        reader.row(number, operator)
     }
-    let number = line.take();
-    let Some((operator, count)) = operator_field(line.take()) else {
-        return Err(line.fault(Refusal::NotANumber, 3));
-    };
-    line.expect(count)?;
-    row_fields(line, number, operator, header, holders, due)
 }

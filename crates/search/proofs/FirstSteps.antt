@@ -1,5 +1,5 @@
 -- What the first step from a state on says of all its steps.
-use Rattle.std.proofs.Common.{◌≡◌, ℕ, ◌<◌, ◌≤◌, Bool, true, false, ◌&&◌, is_some, Some, None, Option, sym, inl, inr}
+use Rattle.std.proofs.Common.{◌≡◌, ℕ, ◌<◌, ◌≤◌, Bool, true, false, ◌&&◌, Some, None, inl, inr}
 use Rattle.std.proofs.lemmas.Bool.{cases_lt}
 use Rattle.semantics.specs.Sets.{any, into}
 use Rattle.semantics.proofs.Quantifiers.{any_at, any_none, any_never}
@@ -18,8 +18,3 @@ module _ (n : ℕ) (steps : ℕ → ℕ → Bool) (m : ℕ → Bool) (s low : �
 
   pub first_into : (t : ℕ) → FirstStep n steps m s low (Some t) → into n steps m s ≡ true
   first_into t h = any_at n (λ u. m u && steps s u) t h.1 h.2
-
-  -- there is a first step just where there is some
-  pub first_some : (r : Option ℕ) → FirstStep n steps m s low r → is_some r ≡ into n steps m s
-  first_some (Some t) h = sym (first_into t h)
-  first_some None h = sym (first_none h)

@@ -1,2 +1,3 @@
+pub mod FilledSets
 pub mod FirstSteps
 pub mod StackLaws

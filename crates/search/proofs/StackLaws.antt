@@ -1,16 +1,9 @@
 -- The part of the slots that a stack holds.
-use Rattle.std.proofs.Common.{◌≡◌, ℕ, ◌+◌, ◌-◌, ◌≤◌, min, Bool, true, cond, List, length, take, drop, set, sym, refl, ap, ◌∙◌, inl, inr, arith}
-use Rattle.std.proofs.lemmas.List.{take_all, drop-drop, drop-set-lt}
-use Rattle.std.proofs.lemmas.Bool.{cases_lt, cond-true}
+use Rattle.std.proofs.Common.{◌≡◌, ℕ, ◌+◌, ◌-◌, ◌≤◌, Bool, true, cond, List, length, drop, set, sym, refl, ap, ◌∙◌, arith}
+use Rattle.std.proofs.lemmas.List.{drop-drop, drop-set-lt}
+use Rattle.std.proofs.lemmas.Bool.{cond-true}
 use Rattle.search.specs.Stack.{contents, capacity, Behind}
 use Rattle.search.specs.declared.stack.Stack.{Stack}
-
--- taking no more than there are takes the same
-pub take_min : {A : Type 0} (n m : ℕ) (xs : List A) → m ≡ min n (length xs) → take m xs ≡ take n xs
-take_min n m xs e = elim (cases_lt n (length xs)) [
-  | inl l ↦ (let p : m ≡ n = omega arith in ap (λ i. take i xs) p)
-  | inr g ↦ take_all m xs (omega arith) ∙ sym (take_all n xs g)
-]
 
 pub behind_first : {T : Type 0} (s : Stack T) → Behind s s
 behind_first s = record { size = refl; rest = refl; lent = refl }

@@ -1,3 +1,4 @@
+pub mod Filled
 pub mod Next
 pub mod Rows
 pub mod Stack

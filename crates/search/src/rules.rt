@@ -34,9 +34,8 @@ impl StepRule for BitRows<'_> {
     ghost steps = { λ rule. in_rows rule.rows.now };
 
     fn leads(&self, from: usize, to: usize) -> bool {
-        if from >= self.rows.len() {
-            return false;
-        }
-        BitSet::from_bits(self.rows[from]).has(to)
+        self.rows
+            .get(from)
+            .is_some_and(|row| BitSet::from_bits(*row).has(to))
     }
 }

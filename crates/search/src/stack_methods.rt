@@ -74,11 +74,8 @@ impl<'a, T: Copy> Stack<'a, T> {
         ensures slots { self.new.slots.now ≡ self.old.slots.now }
         ensures lent { self.new.slots.ghost_name ≡ self.old.slots.ghost_name }
     {
-        let len = self.len();
-        if len == 0 {
-            return None;
-        }
-        self.len = len - 1;
-        Some(self.slots[len - 1])
+        let top = self.len().checked_sub(1)?;
+        self.len = top;
+        Some(self.slots[top])
     }
 }

@@ -3,10 +3,10 @@ use sets::{BitSet, StateSet};
 /// The rows of a chain: each state leads to the next, and the last one to `back`.
 pub(crate) fn chain(states: usize, back: usize) -> [u128; 128] {
     let mut rows = [0; 128];
-    for from in 0..128 {
+    for (from, row) in rows.iter_mut().enumerate() {
         let to = if from + 1 < states { from + 1 } else { back };
         if to < 128 {
-            rows[from] = 1 << to;
+            *row = 1 << to;
         }
     }
     rows

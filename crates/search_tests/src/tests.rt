@@ -1,6 +1,6 @@
 use crate::graphs::{all_below, chain};
 use fixpoints::{Lasso, NoRoom, globally, globally_path, until, until_path};
-use search::{BitRows, Reversed, lowest_without_step, next};
+use search::{BitRows, Graph, Reversed};
 use sets::{BitSet, SortedList, StateSet, count};
 use std::process::Abort;
 
@@ -55,27 +55,28 @@ fn chain_searches<S: StateSet>(rt: &impl Abort, set: &mut S, states: usize) {
     let last = states - 1;
     let rows = chain(states, last);
     let rule = BitRows { rows: &rows };
+    let graph = Graph {
+        rule: &rule,
+        states,
+    };
     let all = all_below(states);
     let mut end = BitSet::new();
     let _ = end.put(last);
     let mut slots = [0; 256];
-    assert_eq!(rt;
-        until(&rule, states, &all, &end, set, &mut slots),
-        Some(last)
-    );
+    assert_eq!(rt; until(&graph, &all, &end, set, &mut slots), Ok(last));
     assert_eq!(rt; count(set, states), states);
     assert_eq!(rt;
-        globally(&rule, states, &all_below(last), set, &mut slots),
-        Some(last)
+        globally(&graph, &all_below(last), set, &mut slots),
+        Ok(last)
     );
     assert_eq!(rt; count(set, states), 0);
     let mut path = [200; 128];
     assert_eq!(rt;
-        until_path(&rule, states, &all, &end, 0, set, &mut slots, &mut path),
+        until_path(&graph, &all, &end, 0, set, &mut slots, &mut path),
         Ok(Some(states))
     );
-    for place in 0..states {
-        assert_eq!(rt; usize::from(path[place]), place);
+    for (place, state) in path[..states].iter().enumerate() {
+        assert_eq!(rt; usize::from(*state), place);
     }
 }
 
@@ -92,11 +93,15 @@ fn chain_comes_back<S: StateSet>(rt: &impl Abort, set: &mut S, states: usize) {
     let middle = states / 2;
     let rows = chain(states, middle);
     let rule = BitRows { rows: &rows };
+    let graph = Graph {
+        rule: &rule,
+        states,
+    };
     let mut slots = [0; 256];
     let mut path = [200; 128];
     let all = all_below(states);
     assert_eq!(rt;
-        globally_path(&rule, states, &all, 0, set, &mut slots, &mut path),
+        globally_path(&graph, &all, 0, set, &mut slots, &mut path),
         Ok(Some(Lasso {
             length: states,
             place: middle,
@@ -104,15 +109,7 @@ fn chain_comes_back<S: StateSet>(rt: &impl Abort, set: &mut S, states: usize) {
     );
     assert_eq!(rt; count(set, states), states);
     assert_eq!(rt;
-        globally_path(
-            &rule,
-            states,
-            &all_below(middle),
-            0,
-            set,
-            &mut slots,
-            &mut path,
-        ),
+        globally_path(&graph, &all_below(middle), 0, set, &mut slots, &mut path),
         Ok(None)
     );
     assert_eq!(rt; count(set, states), 0);
@@ -128,16 +125,20 @@ fn lassos(rt: HostRuntime) {
 fn refuses<S: StateSet>(rt: &impl Abort, set: &mut S, states: usize, path: &mut [u8]) {
     let rows = chain(states, 0);
     let rule = BitRows { rows: &rows };
+    let graph = Graph {
+        rule: &rule,
+        states,
+    };
     let all = all_below(states);
     let mut slots = [0; 256];
     set.clear();
     let _ = set.put(7);
     assert_eq!(rt;
-        until_path(&rule, states, &all, &all, 0, set, &mut slots, path),
+        until_path(&graph, &all, &all, 0, set, &mut slots, path),
         Err(NoRoom)
     );
     assert_eq!(rt;
-        globally_path(&rule, states, &all, 0, set, &mut slots, path),
+        globally_path(&graph, &all, 0, set, &mut slots, path),
         Err(NoRoom)
     );
     assert_eq!(rt; count(set, 64), 1);
@@ -160,10 +161,19 @@ fn steps(rt: HostRuntime) {
     let mut goal = BitSet::new();
     let _ = goal.put(1);
     let mut set = SortedList::new();
-    assert_eq!(rt; next(&rule, 3, &goal, &mut set), true);
+    let graph = Graph {
+        rule: &rule,
+        states: 3,
+    };
+    let reversed = Reversed(&rule);
+    let back = Graph {
+        rule: &reversed,
+        states: 3,
+    };
+    assert_eq!(rt; graph.next(&goal, &mut set), Ok(()));
     assert_eq!(rt; set.has(0) && count(&set, 3) == 1, true);
-    assert_eq!(rt; next(&Reversed(&rule), 3, &goal, &mut set), true);
+    assert_eq!(rt; back.next(&goal, &mut set), Ok(()));
     assert_eq!(rt; set.has(2) && count(&set, 3) == 1, true);
-    assert_eq!(rt; lowest_without_step(&rule, 3), Some(2));
-    assert_eq!(rt; lowest_without_step(&Reversed(&rule), 3), Some(0));
+    assert_eq!(rt; graph.lowest_without_step(), Some(2));
+    assert_eq!(rt; back.lowest_without_step(), Some(0));
 }

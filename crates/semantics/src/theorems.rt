@@ -13,158 +13,106 @@ ghost use Rattle.semantics.specs.SheetsRead.{OnlySheetsRead, SheetsReadBack, Tex
 ghost use Rattle.semantics.specs.Worked.{Worked};
 ghost use Rattle.semantics.specs.OrderExamples.{OrderExamples};
 
-pub fn until_settles_stands() -> u8
+pub fn until_settles_stands()
     ensures { UntilSettles }
-{
-    0
-}
+{}
 
-pub fn globally_settles_stands() -> u8
+pub fn globally_settles_stands()
     ensures { GloballySettles }
-{
-    0
-}
+{}
 
-pub fn sets_are_truth_stands() -> u8
+pub fn sets_are_truth_stands()
     ensures { SetsAreTruth }
-{
-    0
-}
+{}
 
-pub fn access_transitive_stands() -> u8
+pub fn access_transitive_stands()
     ensures { AccessTransitive }
-{
-    0
-}
+{}
 
-pub fn access_euclidean_stands() -> u8
+pub fn access_euclidean_stands()
     ensures { AccessEuclidean }
-{
-    0
-}
+{}
 
-pub fn access_shift_reflexive_stands() -> u8
+pub fn access_shift_reflexive_stands()
     ensures { AccessShiftReflexive }
-{
-    0
-}
+{}
 
-pub fn commitment_without_access_stands() -> u8
+pub fn commitment_without_access_stands()
     ensures { CommitmentWithoutAccess }
-{
-    0
-}
+{}
 
-pub fn fulfilment_commits_stands() -> u8
+pub fn fulfilment_commits_stands()
     ensures { FulfilmentCommits }
-{
-    0
-}
+{}
 
-pub fn fulfilment_only_of_commitments_stands() -> u8
+pub fn fulfilment_only_of_commitments_stands()
     ensures { FulfilmentOnlyOfCommitments }
-{
-    0
-}
+{}
 
-pub fn query_sets_are_truth_stands() -> u8
+pub fn query_sets_are_truth_stands()
     ensures { QuerySetsAreTruth }
-{
-    0
-}
+{}
 
-pub fn two_roads_stands() -> u8
+pub fn two_roads_stands()
     ensures { TwoRoads }
-{
-    0
-}
+{}
 
-pub fn evidence_where_due_stands() -> u8
+pub fn evidence_where_due_stands()
     ensures { EvidenceWhereDue }
-{
-    0
-}
+{}
 
-pub fn queries_read_back_stands() -> u8
+pub fn queries_read_back_stands()
     ensures { QueriesReadBack }
-{
-    0
-}
+{}
 
-pub fn only_queries_read_stands() -> u8
+pub fn only_queries_read_stands()
     ensures { OnlyQueriesRead }
-{
-    0
-}
+{}
 
-pub fn reductions_read_back_stands() -> u8
+pub fn reductions_read_back_stands()
     ensures { ReductionsReadBack }
-{
-    0
-}
+{}
 
-pub fn runs_agree_stands() -> u8
+pub fn runs_agree_stands()
     ensures { RunsAgree }
-{
-    0
-}
+{}
 
-pub fn runs_show_stands() -> u8
+pub fn runs_show_stands()
     ensures { RunsShow }
-{
-    0
-}
+{}
 
-pub fn runs_account_stands() -> u8
+pub fn runs_account_stands()
     ensures { RunsAccount }
-{
-    0
-}
+{}
 
-pub fn only_sheets_read_stands() -> u8
+pub fn only_sheets_read_stands()
     ensures { OnlySheetsRead }
-{
-    0
-}
+{}
 
-pub fn sheets_read_back_stands() -> u8
+pub fn sheets_read_back_stands()
     ensures { SheetsReadBack }
-{
-    0
-}
+{}
 
-pub fn texts_determine_stands() -> u8
+pub fn texts_determine_stands()
     ensures { TextsDetermine }
-{
-    0
-}
+{}
 
-pub fn texts_short_stands() -> u8
+pub fn texts_short_stands()
     ensures { TextsShort }
-{
-    0
-}
+{}
 
-pub fn worked_example_stands() -> u8
+pub fn worked_example_stands()
     ensures { Worked }
-{
-    0
-}
+{}
 
-pub fn edits_undone_stands() -> u8
+pub fn edits_undone_stands()
     ensures { EditsUndone }
-{
-    0
-}
+{}
 
-pub fn logs_are_runs_stands() -> u8
+pub fn logs_are_runs_stands()
     ensures { LogsAreRuns }
-{
-    0
-}
+{}
 
-pub fn order_examples_stands() -> u8
+pub fn order_examples_stands()
     ensures { OrderExamples }
-{
-    0
-}
+{}

@@ -1,3 +1,4 @@
 pub mod BitLaws
 pub mod SortedLaws
 pub mod MemberLaws
+pub mod Ranges

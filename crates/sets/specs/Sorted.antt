@@ -1,5 +1,5 @@
 -- A list whose first n numbers rise and stay below 64, and the numbers that it has.
-use Rattle.std.specs.Prelude.{◌≡◌, ℕ, zero, suc, ◌+◌, ◌<◌, ◌≤◌, Bool, false, ◌||◌, List, ◌==◌, slice_index, slice_index_or}
+use Rattle.std.specs.Prelude.{◌≡◌, ℕ, zero, suc, ◌<◌, ◌≤◌, Bool, false, ◌||◌, List, ◌==◌, slice_index, slice_index_or}
 
 -- each of the first n is below 64
 abbrev pub Small : List ℕ → ℕ → Type 0
@@ -19,19 +19,8 @@ pub record At (xs : List ℕ) (n place v : ℕ) : Type 0 where
   pub within : place < n
   pub here : slice_index_or xs place 0 ≡ v
 
--- v belongs between those before a place and the one there, of the first n
-pub record Between (xs : List ℕ) (n place v : ℕ) : Type 0 where
+-- a place for v, which the first n lack: those before it are below v, those from it on above
+pub record Gap (xs : List ℕ) (n place v : ℕ) : Type 0 where
   pub within : place ≤ n
   pub before : (k : ℕ) → k < place → slice_index xs k < v
-  pub above : place < n → v < slice_index xs place
-
--- ys is xs with v put in at one place, of the first n
-pub record Inserted (xs ys : List ℕ) (n place v : ℕ) : Type 0 where
-  pub before : (k : ℕ) → k < place → slice_index ys k ≡ slice_index xs k
-  pub here : slice_index_or ys place 0 ≡ v
-  pub past : (k : ℕ) → place ≤ k → k < n → slice_index ys (k + 1) ≡ slice_index xs k
-
--- ys is xs without one place, of the first n
-pub record Removed (xs ys : List ℕ) (n place : ℕ) : Type 0 where
-  pub before : (k : ℕ) → k < place → slice_index ys k ≡ slice_index xs k
-  pub past : (k : ℕ) → place ≤ k → k + 1 < n → slice_index ys k ≡ slice_index xs (k + 1)
+  pub above : (k : ℕ) → place ≤ k → k < n → v < slice_index xs k

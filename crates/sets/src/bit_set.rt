@@ -38,15 +38,11 @@ impl BitSet {
 impl StateSet for BitSet {
     const CAPACITY: usize = 128;
 
+    ghost CAPACITY = { 128 };
+
     ghost holds = { λ set. in_bits set.bits };
 
-    ghost room = { 128 };
-
     ghost bounded = { λ x k h. bits_small x.bits k h };
-
-    fn limit() -> usize {
-        Self::CAPACITY
-    }
 
     fn put(&mut self, state: usize) -> bool {
         if state >= Self::CAPACITY {

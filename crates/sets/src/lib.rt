@@ -18,17 +18,20 @@ pub trait StateSet {
     /// The states that a set of this kind can hold are those below it.
     const CAPACITY: usize;
 
+    ghost CAPACITY: { ℕ };
+
     ghost holds: { Self → ℕ → Bool };
 
-    ghost room: { ℕ };
-
-    /// The capacity. Generic code asks for it here, because a generic proof cannot cite the constant.
+    /// The capacity.
     fn limit() -> usize
-        ensures { result ≡ room };
+        ensures { result ≡ CAPACITY }
+    {
+        Self::CAPACITY
+    }
 
     /// Puts `state` in, or changes nothing and answers `false` where it is not below the capacity.
     fn put(&mut self, state: usize) -> bool
-        ensures fits { result ≡ nat_lt state room }
+        ensures fits { result ≡ nat_lt state CAPACITY }
         ensures after { Same (holds self.new) (if result then plus (holds self.old) state else holds self.old) };
 
     /// Takes `state` out, if it is in.
@@ -47,18 +50,12 @@ pub trait StateSet {
     fn join(&mut self, other: &Self)
         ensures { Same (holds self.new) (union (holds self.old) (holds other.now)) };
 
-    ghost bounded: { (set : Self) (k : ℕ) → holds set k ≡ true → k < room };
+    ghost bounded: { (set : Self) (k : ℕ) → holds set k ≡ true → k < CAPACITY };
 }
 
 /// How many of the states below `states` are in `set`.
 pub fn count<S: StateSet>(set: &S, states: usize) -> usize
     ensures { result ≡ count states (S.holds set.now) }
 {
-    let mut total = 0;
-    for state in 0..states {
-        if set.has(state) {
-            total += 1;
-        }
-    }
-    total
+    (0..states).filter(|state| set.has(*state)).count()
 }

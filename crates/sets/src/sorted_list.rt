@@ -1,10 +1,11 @@
-ghost use Rattle.std.specs.Prelude.{◌≡◌, ℕ, ◌<◌, ◌≤◌, false, length, MatchResult};
-ghost use Rattle.sets.specs.Sorted.{Small, Rising, among, At, Between, Inserted, Removed};
+ghost use Rattle.std.specs.Prelude.{◌≡◌, ℕ, ◌<◌, ◌≤◌, false, MatchResult, OnErr, is_ok};
+ghost use Rattle.sets.specs.Sorted.{Small, Rising, among, At, Gap};
 ghost use Rattle.sets.specs.Bounds.{among_small};
 
 use crate::StateSet;
 
-/// The states as a strictly rising list of at most 64 numbers, each below 64.
+/// The states as a strictly rising list of at most 64 numbers, each below 64. No set takes memory, so the list is
+/// the front of a fixed array.
 #[derive(Clone, Copy)]
 pub struct SortedList {
     items: [u8; 64],
@@ -24,82 +25,45 @@ impl SortedList {
             len: 0,
         }
     }
-}
 
-/// Where `value` is among the first `len`, or else the place to put it in.
-fn find(items: &[u8], len: usize, value: u8) -> Result<usize, usize>
-    requires { len ≤ length items.now }
-    ensures { MatchResult result (λ place. At items.now len place value) (λ place. Between items.now len place value) }
-{
-    for i in 0..len {
-        if items[i] == value {
-            return Ok(i);
-        }
-        if items[i] > value {
-            return Err(i);
-        }
-    }
-    Err(len)
-}
-
-/// Puts `value` in at `place`, and moves the rest of the first `len` up by one.
-fn insert_at(items: &mut [u8], len: usize, place: usize, value: u8)
-    requires within { place ≤ len }
-    requires fits { len < length items.old }
-    ensures { Inserted items.old items.new len place value }
-{
-    for i in (place..len).rev() {
-        items[i + 1] = items[i];
-    }
-    items[place] = value;
-}
-
-/// Takes what is at `place` out of the first `len`, and moves the rest down by one.
-fn remove_at(items: &mut [u8], len: usize, place: usize)
-    requires within { place < len }
-    requires fits { len ≤ length items.old }
-    ensures { Removed items.old items.new len place }
-{
-    for i in place + 1..len {
-        items[i - 1] = items[i];
+    // Where `value` is, or else the place to put it in.
+    fn find(&self, value: u8) -> Result<usize, usize>
+        ensures place { MatchResult result (λ place. At self.now.items self.now.len place value) (λ place. Gap self.now.items self.now.len place value) }
+        ensures member { is_ok result ≡ among self.now.items self.now.len value }
+        ensures room { OnErr result (value < 64 → self.now.len < 64) }
+    {
+        self.items[..self.len].binary_search(&value)
     }
 }
 
 impl StateSet for SortedList {
     const CAPACITY: usize = 64;
 
+    ghost CAPACITY = { 64 };
+
     ghost holds = { λ set. among set.items set.len };
 
-    ghost room = { 64 };
-
     ghost bounded = { λ x k h. among_small x.items x.len k x.small h };
-
-    fn limit() -> usize {
-        Self::CAPACITY
-    }
 
     fn put(&mut self, state: usize) -> bool {
         if state >= Self::CAPACITY {
             return false;
         }
         let value = state as u8;
-        match find(&self.items, self.len, value) {
-            Ok(_) => true,
-            Err(place) => {
-                insert_at(&mut self.items, self.len, place, value);
-                self.len += 1;
-                true
-            }
+        if let Err(place) = self.find(value) {
+            self.items.copy_within(place..self.len, place + 1);
+            self.items[place] = value;
+            self.len += 1;
         }
+        true
     }
 
     fn take(&mut self, state: usize) {
-        if state >= Self::CAPACITY {
+        let Ok(value) = u8::try_from(state) else {
             return;
-        }
-        let value = state as u8;
-        if let Ok(place) = find(&self.items, self.len, value) {
-            remove_at(&mut self.items, self.len, place);
+        };
+        if let Ok(place) = self.find(value) {
+            self.items.copy_within(place + 1..self.len, place);
             self.len -= 1;
         }
     }
@@ -109,17 +73,12 @@ impl StateSet for SortedList {
     }
 
     fn has(&self, state: usize) -> bool {
-        for i in 0..self.len {
-            if self.items[i] as usize == state {
-                return true;
-            }
-        }
-        false
+        u8::try_from(state).is_ok_and(|value| self.find(value).is_ok())
     }
 
     fn join(&mut self, other: &SortedList) {
-        for i in 0..other.len {
-            let _ = self.put(other.items[i] as usize);
+        for item in &other.items[..other.len] {
+            let _ = self.put(usize::from(*item));
         }
     }
 }

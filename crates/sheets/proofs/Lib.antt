@@ -1,4 +1,3 @@
-pub mod Holding
 pub mod Model
 pub mod Lines
 pub mod Validity

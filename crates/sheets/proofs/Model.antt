@@ -1,5 +1,6 @@
 -- What the model of a sheet has.
 use Rattle.std.proofs.Common.{◌≡◌, ℕ, zero, suc, ◌/◌, ◌%◌, ◌^◌, ◌<◌, ◌≤◌, Bool, true, false, cond, ◌&&◌, ◌||◌, eqb, ltb, List, [], ◌∷◌, length, get_or, sym, refl, ap, ◌∙◌, inl, inr, lt_of_lt_of_le, arith, pow_mono}
+use Rattle.std.proofs.Math.Bool.{and-true}
 use native.Mathlib.Nat.{zero-div, div-eq_of_lt}
 use Rattle.std.proofs.lemmas.List.{get_or_past}
 use Rattle.std.proofs.lemmas.Bool.{cases_lt, cases_Bool, and_parts, and_from, and_left, ltb-true, lt-ltb, false≢true}
@@ -16,10 +17,6 @@ use Rattle.sheets.specs.Fits.{Fits}
 use Rattle.sheets.specs.Holding.{held, share_some, holders_within}
 use Rattle.sheets.specs.Model.{local_at, model_of}
 use Rattle.sheets.specs.Moves.{no_state, all_move, moves_from, move_count}
-
-and_true : (b : Bool) → (b && true) ≡ b
-and_true true = refl
-and_true false = refl
 
 no_cond : (b : Bool) (x : ℕ) → x ≡ 0 → 0 ≡ cond b x 0
 no_cond true x e = sym e
@@ -76,14 +73,11 @@ no_bits k = ap (λ q. eqb (q % 2) 1 && ltb k 128) (zero-div (2 ^ k))
 -- a number below 2 to the power 128 has no other bits
 pub small_bits : (x k : ℕ) → x < 2 ^ 128 → in_bits x k ≡ bit_of x k
 small_bits x k h = elim (cases_lt k 128) [
-  | inl l ↦ (ap (λ b. bit_of x k && b) (lt-ltb k 128 l) ∙ and_true (bit_of x k))
+  | inl l ↦ (ap (λ b. bit_of x k && b) (lt-ltb k 128 l) ∙ and-true (bit_of x k))
   | inr g ↦ (let none : x / 2 ^ k ≡ 0 = div-eq_of_lt (lt_of_lt_of_le h (pow_mono g)) in
       let off : bit_of x k ≡ false = ap (λ q. eqb (q % 2) 1) none in
       and_left (bit_of x k) _ off ∙ sym off)
 ]
-
-pub no_mark : (ss : List State) (k m : ℕ) → length ss ≤ k → bit_of (get_or ss k no_state).marks m ≡ false
-no_mark ss k m h = ap (λ (s : State). bit_of s.marks m) (get_or_past ss k no_state h) ∙ ap (λ q. eqb (q % 2) 1) (zero-div (2 ^ m))
 
 -- past the last channel or party of a sheet that fits nothing is held
 module _ (s : Sheet) (f : Fits s) where

@@ -36,24 +36,13 @@ impl Holders {
         ensures value { result ≡ held_count 8 self.now party }
         ensures bound { result ≤ 8 }
     {
-        let mut count = 0;
-        for channel in 0..8 {
-            if self.has(channel, party) {
-                count += 1;
-            }
-        }
-        count
+        (0..8).filter(|channel| self.has(*channel, party)).count()
     }
 
     /// Whether two parties hold some channel both.
     pub fn share(&self, one: usize, other: usize) -> bool
         ensures { result ≡ share_some 8 self.now one other }
     {
-        for channel in 0..8 {
-            if self.has(channel, one) && self.has(channel, other) {
-                return true;
-            }
-        }
-        false
+        (0..8).any(|channel| self.has(channel, one) && self.has(channel, other))
     }
 }

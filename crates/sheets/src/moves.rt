@@ -15,20 +15,22 @@ impl StepRule for Moves<'_> {
     ghost steps = { λ rule. move_in rule.states.now };
 
     fn leads(&self, from: usize, to: usize) -> bool {
-        from < self.states.len() && self.states[from].successors.has(to)
+        self.states
+            .get(from)
+            .is_some_and(|state| state.successors.has(to))
     }
 }
 
 /// The moves that stay within the table of states, as a step rule.
 #[derive(Drop)]
 pub struct MovesWithin<'a> {
-    pub states: &'a [State],
+    pub moves: Moves<'a>,
 }
 
 impl StepRule for MovesWithin<'_> {
-    ghost steps = { λ rule. move_within rule.states.now };
+    ghost steps = { λ rule. move_within rule.moves.states.now };
 
     fn leads(&self, from: usize, to: usize) -> bool {
-        from < self.states.len() && to < self.states.len() && self.states[from].successors.has(to)
+        to < self.moves.states.len() && self.moves.leads(from, to)
     }
 }

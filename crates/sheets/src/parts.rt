@@ -30,7 +30,8 @@ pub struct State {
     pub successors: BitSet,
 }
 
-/// A formula line: an operator and its operands, of which those that it lacks are 0.
+/// A formula line: an operator and its operands, of which those that it lacks are 0, so that every row is taken apart
+/// alike.
 #[derive(Clone, Copy)]
 pub struct Row {
     pub operator: Operator,

@@ -1,23 +1,24 @@
 -- A text cut at its first separator, line by line and field by field.
-use Rattle.std.proofs.Common.{◌≡◌, ℕ, zero, suc, ◌+◌, ◌<◌, Bool, true, false, ◌&&◌, eqb, List, [], ◌∷◌, length, get_or, take, drop, sym, refl, ap, ◌∙◌, ⊎_elim, add-one, arith}
+use Rattle.std.proofs.Common.{◌≡◌, ℕ, zero, suc, ◌+◌, ◌<◌, Bool, true, false, ◌&&◌, eqb, List, [], ◌∷◌, length, get_or, sym, refl, ap, ◌∙◌, ⊎_elim, add-one, arith}
 use Rattle.std.proofs.lemmas.Bool.{cases_Bool, cond-true, cond-false, eqb-true, ne_eqb, and_left, and_right}
 use Rattle.semantics.specs.Cuts.{prefixed, lines_of, fields_of, count_of}
 use Rattle.semantics.specs.LineReading.{is_byte}
-use Rattle.texts.specs.Cuts.{place, before, after}
+use Rattle.std.proofs.Math.Numerals.{one-add}
+use Rattle.texts.specs.Cuts.{before, after}
 use Rattle.texts.specs.Lines.{leads}
 
 -- a separator at the front, or another byte there
 before_here : (b c : ℕ) (cs : List ℕ) → eqb c b ≡ true → before b (c ∷ cs) ≡ []
-before_here b c cs e = ap (λ i. take i (c ∷ cs)) (cond-true (eqb c b) _ _ e)
+before_here b c cs e = rw e refl
 
 after_here : (b c : ℕ) (cs : List ℕ) → eqb c b ≡ true → after b (c ∷ cs) ≡ cs
-after_here b c cs e = ap (λ i. drop (i + 1) (c ∷ cs)) (cond-true (eqb c b) _ _ e)
+after_here b c cs e = rw e refl
 
 before_other : (b c : ℕ) (cs : List ℕ) → eqb c b ≡ false → before b (c ∷ cs) ≡ c ∷ before b cs
-before_other b c cs e = ap (λ i. take i (c ∷ cs)) (cond-false (eqb c b) _ _ e ∙ add-one (place b cs))
+before_other b c cs e = rw (e, one-add) refl
 
 after_other : (b c : ℕ) (cs : List ℕ) → eqb c b ≡ false → after b (c ∷ cs) ≡ after b cs
-after_other b c cs e = ap (λ i. drop i (c ∷ cs)) (ap (λ i. i + 1) (cond-false (eqb c b) _ _ e) ∙ add-one (place b cs + 1))
+after_other b c cs e = rw (e, one-add, add-one, add-one) refl
 
 prefixed_lines : (b : ℕ) (bs : List ℕ) → (0 < length bs → lines_of bs ≡ before 10 bs ∷ lines_of (after 10 bs)) →
     prefixed b (lines_of bs) ≡ (b ∷ before 10 bs) ∷ lines_of (after 10 bs)

@@ -1,7 +1,5 @@
-pub mod Digits
 pub mod Decimals
-pub mod Parted
+pub mod Counts
 pub mod Cutting
 pub mod Agreement
-pub mod Opening
 pub mod Writing

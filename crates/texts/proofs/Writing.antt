@@ -1,6 +1,6 @@
 -- Texts written one after another.
 use Rattle.std.proofs.Common.{◌≡◌, ℕ, ◌+◌, ◌^◌, ◌<◌, ◌≤◌, List, [], ◌∷◌, ◌++◌, length, get_or, take, drop, set, decimal, sym, refl, ap, ◌∙◌, subst, append_assoc, append-nil, add-zero, zero-add, add-one, arith, length-append, length-set}
-use Rattle.std.proofs.lemmas.List.{take_more, take_all, take_more_set, take-append-drop, drop-set-lt}
+use Rattle.std.proofs.lemmas.List.{take_more, take_more_set, take-append-drop, drop-set-lt}
 use Rattle.semantics.specs.Written.{fields_text, texts_below}
 use Rattle.semantics.proofs.SheetRows.{fields_append}
 use Rattle.texts.specs.declared.writer.Writer.{Writer}
@@ -37,9 +37,6 @@ pub fields_more : (ns : List ℕ) (i : ℕ) → i < length ns → fields_text (t
 fields_more ns i h =
     ap fields_text (take_more ns i 0 h) ∙ fields_append (take i ns) (get_or ns i 0 ∷ [])
     ∙ ap (λ t. fields_text (take i ns) ++ (44 ∷ t)) (append-nil (decimal (get_or ns i 0)))
-
-pub fields_all : (ns : List ℕ) (i : ℕ) → length ns ≤ i → fields_text (take i ns) ≡ fields_text ns
-fields_all ns i h = ap fields_text (take_all i ns h)
 
 -- texts one after another, in a loop
 pub texts_none : (f : ℕ → List ℕ) (w : Writer) → w.length < 2 ^ 64 → Gave w (texts_below 0 f) w

@@ -1,17 +1,15 @@
 -- Bytes cut at a separator.
-use Rattle.std.specs.Prelude.{ℕ, ◌+◌, cond, List, [], ◌∷◌, take, drop, ◌==◌}
+use Rattle.std.specs.Prelude.{ℕ, List, ◌==◌}
+use Rattle.std.specs.List.{before_first, after_first}
 use Rattle.semantics.specs.Cuts.{count_of}
 
--- where b stands first, or the length
-abbrev pub place : ℕ → List ℕ → ℕ
-place b [] = 0
-place b (c ∷ cs) = cond (c == b) 0 (place b cs + 1)
-
+-- what stands before the first b, or all where there is none
 abbrev pub before : ℕ → List ℕ → List ℕ
-before b bs = take (place b bs) bs
+before b bs = before_first (λ c. c == b) bs
 
+-- what stands after it, or nothing
 abbrev pub after : ℕ → List ℕ → List ℕ
-after b bs = drop (place b bs + 1) bs
+after b bs = after_first (λ c. c == b) bs
 
 -- how many of the bytes are b
 abbrev pub count : ℕ → List ℕ → ℕ

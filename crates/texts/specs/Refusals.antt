@@ -1,5 +1,7 @@
 -- The refusal table: the number of each refusal.
-use Rattle.std.specs.Prelude.{ℕ}
+use Rattle.std.specs.Prelude.{ℕ, List, [], ◌∷◌}
+use Rattle.semantics.specs.Written.{line_text}
+use Rattle.texts.specs.declared.refusal.Fault.{Fault}
 use Rattle.texts.specs.declared.refusal.Refusal.{Refusal}
 use Rattle.texts.specs.declared.refusal.Refusal.TheVariants.{TextTooLong, Unfinished, NotANumber, NotDue, FieldCount, OutOfRange, OutOfOrder, EndsEarly, WrittenTooLong, NoStart, NoMove, TooManyLines, NotEarlier, NoSharedChannel, AmendmentOpen, WrongTicket, EditOutOfRange, ChannelNotHeld, MovePresent, MoveAbsent, LastMove, MovesFull, EditsFull, Blank, NoSuchLine, NoSuchState, ShortBuffer, SetTooSmall, NoEvidence, FalseThere, TrueThere}
 
@@ -35,3 +37,7 @@ code_of SetTooSmall = 33
 code_of NoEvidence = 34
 code_of FalseThere = 35
 code_of TrueThere = 36
+
+-- a fault as a line: its number, line and field
+abbrev pub fault_text : Fault → List ℕ
+fault_text f = line_text 69 (code_of f.refusal ∷ f.place.line ∷ f.place.field ∷ [])

@@ -1,18 +1,11 @@
-ghost use Rattle.std.specs.Prelude.{◌≡◌, ◌+◌, ◌≤◌, length};
-ghost use Rattle.texts.specs.Cuts.{place, before, after, count};
+ghost use Rattle.std.specs.Prelude.{◌≡◌, ◌≤◌, length, position, ◌==◌};
+ghost use Rattle.texts.specs.Cuts.{before, after, count};
 
-/// Where `b` stands first in `bytes`, or their length.
-fn find(bytes: &[u8], b: u8) -> usize
-    ensures { result ≡ place b bytes.now }
+/// Where `b` stands first in `bytes`.
+fn find(bytes: &[u8], b: u8) -> Option<usize>
+    ensures { result ≡ position (λ c. c == b) bytes.now }
 {
-    let mut i = 0;
-    for c in bytes {
-        if *c == b {
-            return i;
-        }
-        i += 1;
-    }
-    i
+    bytes.iter().position(|c| *c == b)
 }
 
 /// What stands before the first `b`, and what stands after it.
@@ -20,24 +13,17 @@ pub fn cut(bytes: &[u8], b: u8) -> (&[u8], &[u8])
     ensures front { result.0.now ≡ before b bytes.now }
     ensures back { result.1.now ≡ after b bytes.now }
 {
-    let i = find(bytes, b);
-    if i < bytes.len() {
-        (&bytes[0..i], &bytes[i + 1..])
-    } else {
-        (bytes, &[])
+    match find(bytes, b) {
+        Some(i) => (&bytes[..i], &bytes[i + 1..]),
+        None => (bytes, &[]),
     }
 }
 
 /// How many of `bytes` are `b`.
+#[tactic(auto, using(crate::proofs::Counts::count_is))]
 pub fn occurrences(bytes: &[u8], b: u8) -> usize
     ensures value { result ≡ count b bytes.now }
     ensures bound { result ≤ length bytes.now }
 {
-    let mut n = 0;
-    for c in bytes {
-        if *c == b {
-            n += 1;
-        }
-    }
-    n
+    bytes.iter().filter(|c| **c == b).count()
 }

@@ -3,14 +3,15 @@ ghost use Rattle.texts.specs.Fields.{field_of};
 
 use crate::number::number;
 use crate::refusal::{Fault, Place, Refusal};
+use std::ops::Range;
 
-/// The number in a field, which must be at least `low` and below `limit`.
-pub fn field(bytes: &[u8], low: u32, limit: u32, place: Place) -> Result<u32, Fault>
-    ensures value { result ≡ field_of low limit place bytes.now }
-    ensures within { IfOk result (λ n. (low ≤ n) × (n < limit)) }
+/// The number in a field, which must lie in `range`.
+pub fn field(bytes: &[u8], range: Range<u32>, place: Place) -> Result<u32, Fault>
+    ensures value { result ≡ field_of range.start range.end place bytes.now }
+    ensures within { IfOk result (λ n. (range.start ≤ n) × (n < range.end)) }
 {
     match number(bytes) {
-        Ok(n) if low <= n && n < limit => Ok(n),
+        Ok(n) if range.contains(&n) => Ok(n),
         Ok(_) => Err(Fault {
             refusal: Refusal::OutOfRange,
             place,

@@ -7,5 +7,6 @@ pub mod line;
 pub mod lines;
 pub mod number;
 pub mod refusal;
+pub mod text;
 pub mod theorems;
 pub mod writer;

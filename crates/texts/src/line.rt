@@ -7,6 +7,7 @@ ghost use Rattle.texts.specs.Lines.{at, Opened};
 use crate::cut::{cut, occurrences};
 use crate::field::field;
 use crate::refusal::{Fault, Place, Refusal};
+use std::ops::Range;
 
 /// A line whose first field, a letter, has been read: the fields that are still to be read, how many
 /// fields the line has in all, and its number in the text, from 1.
@@ -38,13 +39,7 @@ impl<'a> Line<'a> {
     pub fn fault(&self, refusal: Refusal, field: usize) -> Fault
         ensures { result ≡ fault_at refusal (at self.now.line field) }
     {
-        Fault {
-            refusal,
-            place: Place {
-                line: self.line,
-                field,
-            },
-        }
+        Fault::new(refusal, self.line, field)
     }
 
     /// Refuses the line unless it has `count` fields.
@@ -69,23 +64,19 @@ impl<'a> Line<'a> {
         first
     }
 
-    /// Takes the next field, the one numbered `field`, as a number from `low` on and below `limit`.
-    pub fn number(&mut self, field_number: usize, low: u32, limit: u32) -> Result<u32, Fault>
-        ensures value { result ≡ field_of low limit (at self.old.line field_number) (before 44 self.old.rest.now) }
-        ensures within { IfOk result (λ n. (low ≤ n) × (n < limit)) }
+    /// Takes the next field, the one numbered `field`, as a number in `range`.
+    pub fn number(&mut self, field_number: usize, range: Range<u32>) -> Result<u32, Fault>
+        ensures value { result ≡ field_of range.start range.end (at self.old.line field_number) (before 44 self.old.rest.now) }
+        ensures within { IfOk result (λ n. (range.start ≤ n) × (n < range.end)) }
         ensures rest { self.new.rest.now ≡ after 44 self.old.rest.now }
         ensures line { self.new.line ≡ self.old.line }
         ensures count { self.new.count ≡ self.old.count }
     {
         let bytes = self.take();
-        field(
-            bytes,
-            low,
-            limit,
-            Place {
-                line: self.line,
-                field: field_number,
-            },
-        )
+        let place = Place {
+            line: self.line,
+            field: field_number,
+        };
+        field(bytes, range, place)
     }
 }

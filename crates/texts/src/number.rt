@@ -12,12 +12,12 @@ pub fn number(bytes: &[u8]) -> Result<u32, Refusal>
     digits(bytes)
 }
 
+/// That number, with the one clause that each exit has to show; the others follow from it.
 fn digits(bytes: &[u8]) -> Result<u32, Refusal>
     ensures { result ≡ number_read bytes.now }
 {
-    match bytes {
-        [] | [_, _, _, _, _, _, ..] | [b'0', _, ..] => return Err(Refusal::NotANumber),
-        _ => {}
+    if matches!(bytes, [] | [_, _, _, _, _, _, ..] | [b'0', _, ..]) {
+        return Err(Refusal::NotANumber);
     }
     let mut n = 0;
     for b in bytes {

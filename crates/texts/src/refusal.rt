@@ -1,71 +1,73 @@
 ghost use Rattle.std.specs.Prelude.{◌≡◌};
+ghost use Rattle.texts.specs.Fields.{fault_at};
+ghost use Rattle.texts.specs.Lines.{at};
 ghost use Rattle.texts.specs.Refusals.{code_of};
 
-/// Why a call is refused. Each entry has a number in the refusal table, given by `code`.
+/// Why a call is refused. Each entry has its number in the refusal table.
 #[derive(Clone, Copy, PartialEq, Eq, Debug)]
 pub enum Refusal {
     /// The text is longer than allowed.
-    TextTooLong,
+    TextTooLong = 1,
     /// The text is empty, or its last line has no end.
-    Unfinished,
+    Unfinished = 2,
     /// A field is not a number, or an operator letter is unknown.
-    NotANumber,
+    NotANumber = 3,
     /// The first field is not one that is due here.
-    NotDue,
+    NotDue = 4,
     /// The line has another number of fields.
-    FieldCount,
+    FieldCount = 5,
     /// A number is outside its range.
-    OutOfRange,
+    OutOfRange = 10,
     /// A number is not the one due, or lines do not rise.
-    OutOfOrder,
+    OutOfOrder = 11,
     /// The text ends before its last S or L line.
-    EndsEarly,
+    EndsEarly = 12,
     /// The written text would be longer than a text may be.
-    WrittenTooLong,
+    WrittenTooLong = 13,
     /// No state is a start.
-    NoStart,
+    NoStart = 14,
     /// A state has no move.
-    NoMove,
+    NoMove = 15,
     /// There are more lines of this kind than allowed.
-    TooManyLines,
+    TooManyLines = 16,
     /// An operand or an action is not an earlier line.
-    NotEarlier,
+    NotEarlier = 17,
     /// The debtor and the creditor share no channel.
-    NoSharedChannel,
+    NoSharedChannel = 18,
     /// The call is not allowed while an amendment is open.
-    AmendmentOpen,
+    AmendmentOpen = 20,
     /// The ticket bears another sheet's number, or no amendment is open.
-    WrongTicket,
+    WrongTicket = 21,
     /// A number of an edit is outside its range.
-    EditOutOfRange,
+    EditOutOfRange = 22,
     /// The party does not hold the channel.
-    ChannelNotHeld,
+    ChannelNotHeld = 23,
     /// The move is there already.
-    MovePresent,
+    MovePresent = 24,
     /// The move is not there.
-    MoveAbsent,
+    MoveAbsent = 25,
     /// The move is the last that leaves its state.
-    LastMove,
+    LastMove = 26,
     /// There are as many moves as allowed.
-    MovesFull,
+    MovesFull = 27,
     /// There are as many edits as an amendment may have.
-    EditsFull,
+    EditsFull = 28,
     /// The sheet is blank.
-    Blank,
+    Blank = 29,
     /// There is no such line.
-    NoSuchLine,
+    NoSuchLine = 30,
     /// There is no such state.
-    NoSuchState,
+    NoSuchState = 31,
     /// A lent buffer is too short.
-    ShortBuffer,
+    ShortBuffer = 32,
     /// The sheet has more states than the set can hold.
-    SetTooSmall,
+    SetTooSmall = 33,
     /// The operator has no evidence to show.
-    NoEvidence,
+    NoEvidence = 34,
     /// The formula is false at the state, so nothing shows it true.
-    FalseThere,
+    FalseThere = 35,
     /// The commitment is true at the state, so nothing shows it false.
-    TrueThere,
+    TrueThere = 36,
 }
 
 impl Refusal {
@@ -73,43 +75,12 @@ impl Refusal {
     pub fn code(self) -> u8
         ensures { result ≡ code_of self }
     {
-        match self {
-            Refusal::TextTooLong => 1,
-            Refusal::Unfinished => 2,
-            Refusal::NotANumber => 3,
-            Refusal::NotDue => 4,
-            Refusal::FieldCount => 5,
-            Refusal::OutOfRange => 10,
-            Refusal::OutOfOrder => 11,
-            Refusal::EndsEarly => 12,
-            Refusal::WrittenTooLong => 13,
-            Refusal::NoStart => 14,
-            Refusal::NoMove => 15,
-            Refusal::TooManyLines => 16,
-            Refusal::NotEarlier => 17,
-            Refusal::NoSharedChannel => 18,
-            Refusal::AmendmentOpen => 20,
-            Refusal::WrongTicket => 21,
-            Refusal::EditOutOfRange => 22,
-            Refusal::ChannelNotHeld => 23,
-            Refusal::MovePresent => 24,
-            Refusal::MoveAbsent => 25,
-            Refusal::LastMove => 26,
-            Refusal::MovesFull => 27,
-            Refusal::EditsFull => 28,
-            Refusal::Blank => 29,
-            Refusal::NoSuchLine => 30,
-            Refusal::NoSuchState => 31,
-            Refusal::ShortBuffer => 32,
-            Refusal::SetTooSmall => 33,
-            Refusal::NoEvidence => 34,
-            Refusal::FalseThere => 35,
-            Refusal::TrueThere => 36,
-        }
+        self as u8
     }
 }
 
-/// Where a text is at fault: the line, from 1, and the field in it, from 1; 0 where none is meant.
+/// Where a text is at fault: the line, from 1, and the field in it, from 1; 0 where none is meant, as the
+/// line `E,number,line,field` has it.
 #[derive(Clone, Copy, PartialEq, Eq, Debug)]
 pub struct Place {
     pub line: usize,
@@ -121,4 +92,16 @@ pub struct Place {
 pub struct Fault {
     pub refusal: Refusal,
     pub place: Place,
+}
+
+impl Fault {
+    /// A refusal at `field` of `line`.
+    pub fn new(refusal: Refusal, line: usize, field: usize) -> Fault
+        ensures { result ≡ fault_at refusal (at line field) }
+    {
+        Fault {
+            refusal,
+            place: Place { line, field },
+        }
+    }
 }

@@ -9,11 +9,10 @@ use std::fs;
 /// How many moves a sheet has.
 fn moves(sheet: &Sheet) -> usize {
     let states = sheet.states();
-    let mut moves = 0usize;
-    for state in states {
-        moves = moves.saturating_add(count(&state.successors, states.len()));
-    }
-    moves
+    states.iter().fold(
+        0usize,
+        |moves, state| moves.saturating_add(count(&state.successors, states.len())),
+    )
 }
 
 /// Says what was read.
@@ -34,10 +33,8 @@ fn describe(rt: &HostRuntime, sheet: &Sheet) -> anyhow::Result<()> {
 
 /// Says at which states a line holds.
 fn list_members(rt: &HostRuntime, set: &BitSet, states: usize) -> anyhow::Result<()> {
-    for state in 0..states {
-        if set.has(state) {
-            print!(rt; " {state}")?;
-        }
+    for state in (0..states).filter(|state| set.has(*state)) {
+        print!(rt; " {state}")?;
     }
     println!(rt; "")?;
     Ok(())

@@ -1,32 +1,35 @@
 -- A number is the sum of its bytes, and a row that is written over leaves the others.
-use Rattle.std.proofs.Common.{◌≡◌, ℕ, ◌+◌, ◌-◌, ◌*◌, ◌/◌, ◌%◌, ◌^◌, ◌<◌, ◌≤◌, List, [], ◌∷◌, length, take, drop, sym, ap, ◌∙◌, inl, inr, arith}
+use Rattle.std.proofs.Common.{◌≡◌, ℕ, zero, suc, get_or, ◌+◌, ◌-◌, ◌*◌, ◌/◌, ◌%◌, ◌^◌, ◌<◌, ◌≤◌, List, cond, ltb, length, take, drop, sym, ap, ◌∙◌, subst, inl, inr, arith, length-drop}
 use native.Mathlib.Nat.{div-div-eq-div-mul}
-use borrow.Rule.Slice.PartMut.{put_mid}
-use Rattle.std.proofs.lemmas.List.{drop-take}
+use borrow.Rule.Slice.PartMut.{put_mid, same_len_mid}
+use Rattle.std.proofs.lemmas.List.{drop-take, drop-drop, length-take-le}
 use Rattle.std.proofs.lemmas.Nat.{div-add-mod'}
 use Rattle.std.proofs.lemmas.Slice.{take-put_mid_below, drop-put_mid, between-put_mid}
 use Rattle.std.proofs.lemmas.Bool.{cases_order}
-use Rattle.workspace.specs.Rows.{number, row_of}
+use Rattle.std.proofs.Math.Nat.{pow-suc}
+use Rattle.std.specs.Int.{byte_at, byte_worth, sum_through, to_le_bytes, w128}
+use Rattle.std.specs.Simd.{first_chunks}
+use Rattle.workspace.specs.Rows.{number, row_of, within, row_in}
 
-abbrev pub bytes_of : ℕ → List ℕ
-bytes_of x = (x % 256) ∷ (x / 256 % 256) ∷ (x / 65536 % 256) ∷ (x / 16777216 % 256) ∷ (x / 4294967296 % 256) ∷ (x / 1099511627776 % 256) ∷ (x / 281474976710656 % 256) ∷ (x / 72057594037927936 % 256) ∷ (x / 18446744073709551616 % 256) ∷ (x / 4722366482869645213696 % 256) ∷ (x / 1208925819614629174706176 % 256) ∷ (x / 309485009821345068724781056 % 256) ∷ (x / 79228162514264337593543950336 % 256) ∷ (x / 20282409603651670423947251286016 % 256) ∷ (x / 5192296858534827628530496329220096 % 256) ∷ (x / 1329227995784915872903807060280344576 % 256) ∷ []
+-- the lowest bytes of a number, and what is above them
+bytes_summed : (k n : ℕ) → sum_through (λ i. byte_worth i (byte_at i n)) k + n / 256 ^ suc k * 256 ^ suc k ≡ n
+bytes_summed zero n = omega arith
+bytes_summed (suc k) n =
+    let m = 256 ^ suc k in
+    let halved : n / 256 ^ suc (suc k) ≡ n / m / 256 = ap (λ d. n / d) (pow-suc 256 (suc k)) ∙ sym (div-div-eq-div-mul n m 256) in
+    let split : n / m * m ≡ (n / m / 256 * 256 + n / m % 256) * m = ap (λ q. q * m) (sym (div-add-mod' (n / m) 256)) in
+    let above : n / 256 ^ suc (suc k) * 256 ^ suc (suc k) ≡ n / m / 256 * (m * 256) = λ i. halved i * pow-suc 256 (suc k) i in
+    omega (arith, bytes_summed k n, split, above)
 
-step : (x m : ℕ) → x / m ≡ x / (m * 256) * 256 + x / m % 256
-step x m = sym (ap (λ v. v * 256 + x / m % 256) (sym (div-div-eq-div-mul x m 256)) ∙ div-add-mod' (x / m) 256)
-
-glue : (q0 q1 q2 q3 q4 q5 q6 q7 q8 q9 q10 q11 q12 q13 q14 q15 r0 r1 r2 r3 r4 r5 r6 r7 r8 r9 r10 r11 r12 r13 r14 : ℕ) → q0 ≡ q1 * 256 + r0 → q1 ≡ q2 * 256 + r1 → q2 ≡ q3 * 256 + r2 → q3 ≡ q4 * 256 + r3 → q4 ≡ q5 * 256 + r4 → q5 ≡ q6 * 256 + r5 → q6 ≡ q7 * 256 + r6 → q7 ≡ q8 * 256 + r7 → q8 ≡ q9 * 256 + r8 → q9 ≡ q10 * 256 + r9 → q10 ≡ q11 * 256 + r10 → q11 ≡ q12 * 256 + r11 → q12 ≡ q13 * 256 + r12 → q13 ≡ q14 * 256 + r13 → q14 ≡ q15 * 256 + r14 → r0 + r1 * 256 + r2 * 65536 + r3 * 16777216 + r4 * 4294967296 + r5 * 1099511627776 + r6 * 281474976710656 + r7 * 72057594037927936 + r8 * 18446744073709551616 + r9 * 4722366482869645213696 + r10 * 1208925819614629174706176 + r11 * 309485009821345068724781056 + r12 * 79228162514264337593543950336 + r13 * 20282409603651670423947251286016 + r14 * 5192296858534827628530496329220096 + q15 * 1329227995784915872903807060280344576 ≡ q0
-glue q0 q1 q2 q3 q4 q5 q6 q7 q8 q9 q10 q11 q12 q13 q14 q15 r0 r1 r2 r3 r4 r5 r6 r7 r8 r9 r10 r11 r12 r13 r14 e0 e1 e2 e3 e4 e5 e6 e7 e8 e9 e10 e11 e12 e13 e14 = omega arith
-
-first : (x : ℕ) → x ≡ x / 256 * 256 + x % 256
-first x = sym (div-add-mod' x 256)
-
-top : (x : ℕ) → x < 2 ^ 128 → x / 1329227995784915872903807060280344576 % 256 ≡ x / 1329227995784915872903807060280344576
-top x h = omega arith
-
-pub number_bytes : (x : ℕ) → x < 2 ^ 128 → number (bytes_of x) ≡ x
+pub number_bytes : (x : ℕ) → x < 2 ^ 128 → number (to_le_bytes w128 x) ≡ x
 unfolding number
-number_bytes x h = rw (top x h) (glue x (x / 256) (x / 65536) (x / 16777216) (x / 4294967296) (x / 1099511627776) (x / 281474976710656) (x / 72057594037927936) (x / 18446744073709551616) (x / 4722366482869645213696) (x / 1208925819614629174706176) (x / 309485009821345068724781056) (x / 79228162514264337593543950336) (x / 20282409603651670423947251286016) (x / 5192296858534827628530496329220096) (x / 1329227995784915872903807060280344576) (x % 256) (x / 256 % 256) (x / 65536 % 256) (x / 16777216 % 256) (x / 4294967296 % 256) (x / 1099511627776 % 256) (x / 281474976710656 % 256) (x / 72057594037927936 % 256) (x / 18446744073709551616 % 256) (x / 4722366482869645213696 % 256) (x / 1208925819614629174706176 % 256) (x / 309485009821345068724781056 % 256) (x / 79228162514264337593543950336 % 256) (x / 20282409603651670423947251286016 % 256) (x / 5192296858534827628530496329220096 % 256)
-    (first x) (step x 256) (step x 65536) (step x 16777216) (step x 4294967296) (step x 1099511627776) (step x 281474976710656) (step x 72057594037927936) (step x 18446744073709551616) (step x 4722366482869645213696) (step x 1208925819614629174706176) (step x 309485009821345068724781056) (step x 79228162514264337593543950336) (step x 20282409603651670423947251286016) (step x 5192296858534827628530496329220096))
+number_bytes x h = omega (arith, bytes_summed 15 x)
+
+-- chunk k is n elements from n * k on
+pub chunk_at : (n c k : ℕ) (xs d : List ℕ) → k < c → get_or (first_chunks n c xs) k d ≡ take n (drop (n * k) xs)
+chunk_at n zero k xs d l = absurd (omega arith)
+chunk_at n (suc c) zero xs d l = let e : 0 ≡ n * 0 = omega arith in ap (λ m. take n (drop m xs)) e
+chunk_at n (suc c) (suc k) xs d l = chunk_at n c k (drop n xs) d (omega arith) ∙ ap (take n) (drop-drop (n * k) n xs) ∙ (let e : n + n * k ≡ n * suc k = omega arith in ap (λ m. take n (drop m xs)) e)
 
 pub sixteen : (k : ℕ) → 16 ≡ (16 * k + 16) - 16 * k
 sixteen k = omega arith
@@ -47,16 +50,21 @@ module _ (xs ys : List ℕ) (k : ℕ) (fits : 16 * k + 16 ≤ length xs) (len : 
     ]
   ]
 
--- the same with the part's length as the code has it
+-- row k was written over
 pub record Written (xs ws : List ℕ) (k bits : ℕ) : Type 0 where
-  pub here : row_of ws k ≡ bits
-  pub others : (j : ℕ) → (j ≡ k → ⊥) → row_of ws j ≡ row_of xs j
+  pub here : row_in ws k ≡ cond (within xs k) bits 0
+  pub others : (j : ℕ) → (j ≡ k → ⊥) → row_in ws j ≡ row_in xs j
 
-pub written : (xs ys : List ℕ) (k n bits : ℕ) → 16 * k + 16 ≤ length xs → n ≡ 16 → bits < 2 ^ 128 → ys ≡ bytes_of bits → Written xs (put_mid (16 * k) n xs ys) k bits
+-- by a part whose length is as the code has it
+pub written : (xs ys : List ℕ) (k n bits : ℕ) → 16 * k + 16 ≤ length xs → n ≡ 16 → bits < 2 ^ 128 → ys ≡ to_le_bytes w128 bits → Written xs (put_mid (16 * k) n xs ys) k bits
 written xs ys k n bits fits e small is =
     let len : length ys ≡ 16 = ap length is in
-    let f : put_mid (16 * k) n xs ys ≡ put_mid (16 * k) 16 xs ys = ap (λ m. put_mid (16 * k) m xs ys) e in
-    record {
-      here = ap (λ v. row_of v k) f ∙ row_here xs ys k fits len ∙ ap number is ∙ number_bytes bits small;
-      others = λ j ne. ap (λ v. row_of v j) f ∙ row_other xs ys k fits len j ne;
-    }
+    let ws = put_mid (16 * k) 16 xs ys in
+    let part : length ys ≡ length (take 16 (drop (16 * k) xs)) = len ∙ sym (length-take-le 16 (drop (16 * k) xs) (omega (arith, length-drop (16 * k) xs))) in
+    let same : length ws ≡ length xs = same_len_mid (16 * k) 16 xs ys part in
+    let bits_here : row_of ws k ≡ bits = row_here xs ys k fits len ∙ ap number is ∙ number_bytes bits small in
+    let at_16 : Written xs ws k bits = record {
+      here = λ i. cond (ltb k (same i / 16)) (bits_here i) 0;
+      others = λ j ne i. cond (ltb j (same i / 16)) (row_other xs ys k fits len j ne i) 0;
+    } in
+    subst (λ m. Written xs (put_mid (16 * k) m xs ys) k bits) (sym e) at_16

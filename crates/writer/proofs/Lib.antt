@@ -1,3 +1,5 @@
+pub mod Steps
+pub mod Operands
 pub mod Rows
 pub mod Back
 pub mod SameText

@@ -1,7 +1,7 @@
 -- The text from the tables of a sheet that fits is the text of its model.
 use Rattle.std.proofs.Common.{◌≡◌, ℕ, zero, suc, ◌<◌, ◌≤◌, Bool, true, false, cond, ◌&&◌, ltb, List, [], ◌∷◌, ◌++◌, map, length, get_or, take, decimal, sym, refl, ap, ◌∙◌, inl, inr, append_assoc, append-nil, add-one, arith}
 use Rattle.std.proofs.lemmas.List.{take_all}
-use Rattle.std.proofs.lemmas.Bool.{cases_lt, cond-false, lt-ltb}
+use Rattle.std.proofs.lemmas.Bool.{cases_lt, cond-false, cond_below, lt-ltb}
 use Rattle.semantics.specs.SheetText as model
 use Rattle.semantics.specs.SheetText.{sheet_text}
 use Rattle.semantics.specs.Written.{fields_text, line_text, texts_below, numbered_text}
@@ -56,28 +56,17 @@ twice : (b : Bool) (x : ℕ) → cond b (44 ∷ decimal x) [] ≡ cond b (44 ∷
 twice true x = refl
 twice false x = refl
 
-within : (p n x : ℕ) → p < n → x ≡ cond (ltb p n) x 0
-within p n x l = ap (λ b. cond b x 0) (sym (lt-ltb p n l))
-
-two : (a b : List ℕ) → (([] ++ (44 ∷ a)) ++ (44 ∷ b)) ++ [] ≡ (44 ∷ a) ++ ((44 ∷ b) ++ [])
-two a b = append_assoc (44 ∷ a) (44 ∷ b) []
-
-three : (a b c : List ℕ) → (([] ++ (44 ∷ a)) ++ (44 ∷ b)) ++ (44 ∷ c) ≡ (44 ∷ a) ++ ((44 ∷ b) ++ ((44 ∷ c) ++ []))
-three a b c =
-    append_assoc (44 ∷ a) (44 ∷ b) (44 ∷ c)
-    ∙ ap (λ v. (44 ∷ a) ++ ((44 ∷ b) ++ v)) (sym (append-nil (44 ∷ c)))
-
 -- the numbers of an operator's operands
 operands_same : (o : Operator) (xs : List ℕ) → texts_below 3 (λ i. number_text (nth (kinds_of o) i) (get_or xs i 0)) ≡ fields_text (line.numbers_of (line_with o xs))
 unfolding texts_below
-operands_same Mark xs = append-nil ((44 ∷ decimal (get_or xs 0 0)) ++ [])
-operands_same Not xs = append-nil ((44 ∷ decimal (get_or xs 0 0)) ++ [])
-operands_same Or xs = two (decimal (get_or xs 0 0)) (decimal (get_or xs 1 0))
-operands_same Next xs = append-nil ((44 ∷ decimal (get_or xs 0 0)) ++ [])
-operands_same Globally xs = append-nil ((44 ∷ decimal (get_or xs 0 0)) ++ [])
-operands_same Until xs = two (decimal (get_or xs 0 0)) (decimal (get_or xs 1 0))
-operands_same Commitment xs = three (decimal (get_or xs 0 0)) (decimal (get_or xs 1 0)) (decimal (get_or xs 2 0))
-operands_same Fulfilment xs = three (decimal (get_or xs 0 0)) (decimal (get_or xs 1 0)) (decimal (get_or xs 2 0))
+operands_same Mark xs = simp append-nil
+operands_same Not xs = simp append-nil
+operands_same Or xs = simp (append_assoc, append-nil)
+operands_same Next xs = simp append-nil
+operands_same Globally xs = simp append-nil
+operands_same Until xs = simp (append_assoc, append-nil)
+operands_same Commitment xs = simp (append_assoc, append-nil)
+operands_same Fulfilment xs = simp (append_assoc, append-nil)
 
 row_same : (k : ℕ) (r : Row) → formula_text k r ≡ model.formula_text k (line_of r)
 row_same k r =
@@ -126,7 +115,7 @@ module _ (s : Sheet) (f : Fits s) where
   local_same : (k p : ℕ) → p < head.parties → local_text who ss k p ≡ model.local_text (model_of s) k p
   unfolding model_of
   local_same k p l = λ i.
-      76 ∷ (fields_text (k ∷ p ∷ within p head.parties (local_at ss k p).position l i ∷ []) ++ (copies_same k p i ++ 10 ∷ []))
+      76 ∷ (fields_text (k ∷ p ∷ cond_below p head.parties (local_at ss k p).position 0 l i ∷ []) ++ (copies_same k p i ++ 10 ∷ []))
 
   locals_same : locals_text who head.parties ss ≡ model.locals_text (model_of s)
   unfolding model_of

@@ -30,8 +30,11 @@ holders_text who = texts_below 8 (channel_text who)
 abbrev pub start_text : Bool → ℕ
 start_text b = cond b 1 0
 
+abbrev pub state_line : ℕ → State → List ℕ
+state_line k s = line_text 83 (k ∷ start_text s.start ∷ s.marks ∷ [])
+
 abbrev pub state_text : List State → ℕ → List ℕ
-state_text ss k = line_text 83 (k ∷ start_text (get_or ss k no_state).start ∷ (get_or ss k no_state).marks ∷ [])
+state_text ss k = state_line k (get_or ss k no_state)
 
 abbrev pub states_text : List State → List ℕ
 states_text ss = texts_below (length ss) (state_text ss)
@@ -46,6 +49,13 @@ copies_text who p l = texts_below 8 (copy_text who p l)
 -- what party p knows at state k
 abbrev pub known_text : Holders → ℕ → ℕ → Local → List ℕ
 known_text who k p l = (76 ∷ []) ++ (fields_text (k ∷ p ∷ l.position ∷ []) ++ (copies_text who p l ++ 10 ∷ []))
+
+-- what party p knows at state k, which is s
+abbrev pub party_text : Holders → ℕ → State → ℕ → List ℕ
+party_text who k s p = known_text who k p (slice_index_or s.locals p no_local)
+
+abbrev pub parties_text : Holders → ℕ → ℕ → State → List ℕ
+parties_text who parties k s = texts_below parties (party_text who k s)
 
 abbrev pub local_text : Holders → List State → ℕ → ℕ → List ℕ
 local_text who ss k p = known_text who k p (slice_index_or (get_or ss k no_state).locals p no_local)

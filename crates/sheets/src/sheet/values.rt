@@ -4,10 +4,11 @@ ghost use Rattle.sheets.specs.Fits.{Fits};
 ghost use Rattle.sheets.specs.Model.{model_of};
 ghost use Rattle.sheets.specs.Moves.{move_within};
 
-use crate::moves::MovesWithin;
+use crate::moves::{Moves, MovesWithin};
 use crate::sheet::Sheet;
 use sets::{BitSet, StateSet};
 
+#[tactic(auto, unfolding(crate::specs::Model::model_of))]
 impl Sheet {
     /// How many states there are.
     pub fn state_count(&self) -> usize
@@ -42,55 +43,43 @@ impl Sheet {
     pub fn is_start(&self, state: usize) -> bool
         ensures { result ≡ (model_of self.now).start state }
     {
-        let states = self.states();
-        state < states.len() && states[state].start
+        self.states().get(state).is_some_and(|state| state.start)
     }
 
     /// The sum of powers of two for the marks of a state, or 0 where there is none.
     pub fn mark_sum(&self, state: usize) -> u16
         ensures { result ≡ (model_of self.now).mark_sum state }
     {
-        let states = self.states();
-        if state >= states.len() {
-            return 0;
-        }
-        states[state].marks
+        self.states().get(state).map_or(0, |state| state.marks)
     }
 
     /// Whether a state has a mark.
     pub fn has_mark(&self, state: usize, mark: usize) -> bool
         ensures { result ≡ marked (model_of self.now) mark state }
     {
-        let states = self.states();
-        state < states.len() && BitSet::from_bits(u128::from(states[state].marks)).has(mark)
+        BitSet::from_bits(u128::from(self.mark_sum(state))).has(mark)
     }
 
     /// The position of a party at a state, or 0 where there is none.
     pub fn position(&self, state: usize, party: usize) -> u16
         ensures { result ≡ (model_of self.now).position state party }
     {
-        let states = self.states();
-        if state >= states.len() {
-            return 0;
+        match self.states().get(state) {
+            Some(state) if party < usize::from(self.header.parties) => state.locals[party].position,
+            _ => 0,
         }
-        if party >= usize::from(self.header.parties) {
-            return 0;
-        }
-        states[state].locals[party].position
     }
 
     /// The copy of a channel that a party has at a state, or 0 where there is none.
     pub fn copy(&self, state: usize, party: usize, channel: usize) -> u16
         ensures { result ≡ (model_of self.now).copy state party channel }
     {
-        let states = self.states();
-        if state >= states.len() {
-            return 0;
+        match self.states().get(state) {
+            Some(state) if self.holders.has(channel, party) => {
+                state.locals[party].copies[channel]
+            }
+            _ => 0,
         }
-        if !self.holders.has(channel, party) {
-            return 0;
-        }
-        states[state].locals[party].copies[channel]
     }
 
     /// Whether a party holds a channel.
@@ -109,10 +98,11 @@ impl Sheet {
 
     /// The moves as a step rule.
     pub fn moves(&self) -> MovesWithin<'_>
-        ensures { move_within result.states.now ≡ (model_of self.now).moves }
+        ensures { move_within result.moves.states.now ≡ (model_of self.now).moves }
     {
+        let states = self.states();
         MovesWithin {
-            states: self.states(),
+            moves: Moves { states },
         }
     }
 }

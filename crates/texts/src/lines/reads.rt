@@ -4,27 +4,18 @@ ghost use Rattle.texts.specs.Texts.{whole_of, Took, Due, missing_at, left_at};
 use crate::cut::{cut, occurrences};
 use crate::line::Line;
 use crate::lines::Lines;
-use crate::refusal::{Fault, Place, Refusal};
+use crate::refusal::{Fault, Refusal};
 
 /// Refuses a text of more than `limit` bytes, and one whose last line has no end.
 pub fn check_whole(text: &[u8], limit: usize) -> Result<(), Fault>
     ensures { result ≡ whole_of limit text.now }
 {
     if text.len() > limit {
-        return Err(Fault {
-            refusal: Refusal::TextTooLong,
-            place: Place { line: 0, field: 0 },
-        });
+        return Err(Fault::new(Refusal::TextTooLong, 0, 0));
     }
     match text {
         [.., b'\n'] => Ok(()),
-        _ => Err(Fault {
-            refusal: Refusal::Unfinished,
-            place: Place {
-                line: occurrences(text, b'\n') + 1,
-                field: 0,
-            },
-        }),
+        _ => Err(Fault::new(Refusal::Unfinished, occurrences(text, b'\n') + 1, 0)),
     }
 }
 
@@ -48,20 +39,17 @@ impl<'a> Lines<'a> {
             return None;
         }
         let (bytes, after) = cut(self.rest, b'\n');
-        match Line::open(bytes, letter, self.taken + 1) {
-            Some(line) => {
-                self.rest = after;
-                self.taken += 1;
-                Some(line)
-            }
-            None => None,
-        }
+        let line = Line::open(bytes, letter, self.taken + 1)?;
+        self.rest = after;
+        self.taken += 1;
+        Some(line)
     }
 
     /// Takes the next line, whose first field must be `letter`.
     pub fn due(&mut self, letter: u8) -> Result<Line<'a>, Fault>
         ensures { Due letter self.old result self.new }
     {
+        // No `ok_or_else`: of a closure that captures `self` a proof cannot tie the answer.
         match self.take(letter) {
             Some(line) => Ok(line),
             None => Err(self.missing()),
@@ -73,18 +61,9 @@ impl<'a> Lines<'a> {
         ensures { result ≡ missing_at self.now }
     {
         if self.rest.is_empty() {
-            return Fault {
-                refusal: Refusal::EndsEarly,
-                place: Place { line: 0, field: 0 },
-            };
+            return Fault::new(Refusal::EndsEarly, 0, 0);
         }
-        Fault {
-            refusal: Refusal::NotDue,
-            place: Place {
-                line: self.taken + 1,
-                field: 1,
-            },
-        }
+        Fault::new(Refusal::NotDue, self.taken + 1, 1)
     }
 
     /// Refuses a line where none is due any more.

@@ -25,13 +25,14 @@ impl<'a> Writer<'a> {
     pub fn byte(&mut self, b: u8)
         ensures { Gave self.old (b ∷ []) self.new }
     {
+        // By its place: of a slice that `get_mut` was asked of, a proof no longer knows the elements.
         if self.length < self.buffer.len() {
             self.buffer[self.length] = b;
         }
         self.length = self.length.saturating_add(1);
     }
 
-    /// Writes `n` in decimal.
+    /// Writes `n` in decimal. (`write!` would answer a `Result` to callers that cannot fail.)
     pub fn number(&mut self, n: usize)
         ensures { Gave self.old (decimal n) self.new }
     {

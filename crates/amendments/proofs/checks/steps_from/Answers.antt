@@ -1,14 +1,8 @@
-use Rattle.std.proofs.Common.{true, false, arith}
-use Rattle.semantics.proofs.Counts.{count_more}
+use Rattle.std.proofs.Common.{rules}
+use Rattle.sets.proofs.Ranges.{count_upto}
 use Rattle.amendments.proofs.checks.steps_from.Goals as goal
-use Rattle.amendments.proofs.checks.steps_from.Goals.{then-leads, else-leads}
 
-pub loop-to-preserved : goal.loop-to-preserved
-loop-to-preserved g c =
-    let n = c.loop-to.to in
-    let m = g.R.StepRule.steps c.args.rule.now c.args.from in
-    let i = c.loop-to.invariant in
-    elim c.if-leads.branch [
-      | then-leads w ↦ (let e = count_more n m true w.if-leads.ensures in (omega (arith, w.total-is, i.0), omega (arith, w.total-is, i.1, e)))
-      | else-leads w ↦ (let e = count_more n m false w.if-leads.ensures in (omega (arith, w.total-is, i.0), omega (arith, w.total-is, i.1, e)))
-    ]
+pub returns-clause-value : goal.returns-clause-value
+returns-clause-value c =
+    rw (← c.state_count.ensures.value)
+    (count_upto _ c.filter.ensures.source c.filter.ensures.closure c.count.ensures.ran (λ x b q k. (search rules, search rules)))

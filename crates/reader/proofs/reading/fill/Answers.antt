@@ -1,24 +1,31 @@
-use Rattle.std.proofs.Common.{◌≡◌, vec_items, vec_len, sym, ap, ◌∙◌, arith}
+use Rattle.std.proofs.Common.{◌≡◌, vec_items, length, sym, ap, ◌∙◌, arith}
 use Rattle.sheets.specs.Fitting.{states_fit, any_start}
 use Rattle.sheets.specs.Moves.{all_move, move_count}
-use Rattle.reader.proofs.Filled.{all_move_law}
+use Rattle.reader.proofs.Filled.{all_move_law, take-append-whole}
 use Rattle.reader.proofs.reading.fill.Goals as goal
 
 pub returns : goal.returns
 returns c =
-    let h = c.in_ok-header.header in
-    let same : c.read_rows.new.tables.states ≡ c.read_moves.new.tables.states = c.in_ok-read_rows.ensures.states in
-    let slice : c.as_slice.result.now ≡ vec_items c.read_rows.new.tables.states = c.as_slice.ensures.value in
+    let front = c.in_ok-front.front in
+    let h = front.header in
+    let ss = c.read_moves.new.states in
+    let read = c.in_ok-read_all_locals.ensures in
+    let moved = c.in_ok-read_moves.ensures in
     let rows = c.in_ok-read_rows.ensures.rows in
     let whole = c.in_ok-check_states.ensures in
+    let table = c.read_states.new.tables.states in
+    let t = c.read_rows.new.tables in
+    let kept : vec_items t.states ≡ ss =
+    ap vec_items c.in_ok-read_rows.ensures.states ∙ take-append-whole table.len ss _ (omega (arith, table.ok.0)) in
+    let checked = c.deref.ensures.value in
     record {
-      bounded = c.in_ok-header.ensures.within;
-      states = ap vec_len same ∙ c.read_moves.ensures.states;
-      few_rows = rows.0;
-      holders_exist = c.in_ok-holders.ensures;
-      states_fit = ap (λ v. states_fit h.marks (vec_items v)) same ∙ c.read_moves.ensures.fit;
-      some_start = ap any_start (sym slice) ∙ whole.0;
-      few_moves = omega (arith, ap (λ v. move_count (vec_items v)) same, c.read_moves.ensures.few);
-      moves_leave = ap all_move (sym slice) ∙ all_move_law c.as_slice.result.now whole.1;
-      sound_rows = rows.1;
+      bounded = front.bounded;
+      states = omega (arith, t.states.ok.0, ap length kept, read.all);
+      few_rows = omega (arith, t.rows.ok.0, rows.few);
+      holders_exist = front.holders_exist;
+      states_fit = ap (states_fit h.marks) kept ∙ moved.fit;
+      some_start = ap any_start (sym checked) ∙ whole.0;
+      few_moves = omega (arith, ap move_count kept, moved.few);
+      moves_leave = ap all_move (sym checked) ∙ all_move_law c.deref.result.now whole.1;
+      sound_rows = rows.sound;
     }

@@ -1,6 +1,5 @@
-use Rattle.texts.specs.Written.{Gave, texts_below}
-use Rattle.writer.specs.Render.{operand_text}
+use Rattle.writer.proofs.Operands.{Walked}
 use Rattle.writer.proofs.writing.write_operands.Given as goal
 
-abbrev pub invariant-loop-i : goal.invariant-loop-i
-invariant-loop-i l = Gave l.initial.writer (texts_below l.i (operand_text l.row)) l.writer
+abbrev pub invariant-loop-kind : goal.invariant-loop-kind
+invariant-loop-kind l = Walked l.row l.kind-iterator.a.rest.now l.kind-iterator.b.rest.now l.initial.writer l.writer

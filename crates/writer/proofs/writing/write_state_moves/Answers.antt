@@ -1,9 +1,13 @@
+use Rattle.std.proofs.Common.{rules}
 use Rattle.texts.proofs.Writing.{texts_none, texts_more}
-use Rattle.writer.specs.Render.{move_text}
+use Rattle.writer.proofs.Steps.{gave_when, gave_unless}
 use Rattle.writer.proofs.writing.write_state_moves.Goals as goal
+use Rattle.writer.proofs.writing.write_state_moves.Goals.{then-leads, else-leads}
 
 pub loop-to-init : goal.loop-to-init
-loop-to-init c = texts_none (move_text c.args.states.now c.args.from) c.args.writer.now c.args.writer.now.counted
+loop-to-init c = search (rules, texts_none)
 
 pub loop-to-preserved : goal.loop-to-preserved
-loop-to-preserved c = texts_more (move_text c.args.states.now c.args.from) c.loop-to.to c.args.writer.now.counted c.loop-to.invariant c.write_move.ensures
+loop-to-preserved c =
+    texts_more _ _ c.args.writer.now.counted c.loop-to.invariant
+    (elim c.if-leads.branch [ then-leads w ↦ gave_when w.if-leads.ensures w.writer-is w.line.ensures | else-leads w ↦ gave_unless _ w.if-leads.ensures w.writer-is ])

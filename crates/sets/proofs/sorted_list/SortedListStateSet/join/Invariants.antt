@@ -2,6 +2,6 @@ use Rattle.std.proofs.Common.{◌≡◌, ℕ, ◌||◌}
 use Rattle.sets.specs.Sorted.{among}
 use Rattle.sets.proofs.sorted_list.SortedListStateSet.join.Given as goal
 
-abbrev pub invariant-loop-i : goal.invariant-loop-i
-invariant-loop-i l =
-    (k : ℕ) → among l.self.items l.self.len k ≡ (among l.initial.self.items l.initial.self.len k || among l.other.items l.i k)
+abbrev pub invariant-loop-item : goal.invariant-loop-item
+invariant-loop-item l =
+    (k : ℕ) → among l.self.items l.self.len k ≡ (among l.initial.self.items l.initial.self.len k || among l.other.items l.item-index k)

@@ -1,41 +1,29 @@
-use Rattle.std.proofs.Common.{◌<◌, sym, arith, rules}
-use Rattle.std.proofs.lemmas.Bool.{lt-ltb}
+use Rattle.std.proofs.Common.{rules, sym}
 use Rattle.sets.specs.Sorted.{among}
 use Rattle.sets.proofs.MemberLaws.{has_there}
-use Rattle.sets.proofs.SortedLaws.{among_at, between_fits, inserted_has, inserted_small, inserted_rises}
+use Rattle.sets.proofs.SortedLaws.{inserted_has, inserted_small, inserted_rises}
 use Rattle.sets.proofs.sorted_list.SortedListStateSet.put.Goals as goal
 
-pub insert_at-requires : goal.insert_at-requires
-insert_at-requires c =
+pub invariant_of-self-clause-small : goal.invariant_of-self-clause-small
+invariant_of-self-clause-small c =
     let x = c.args.self.now in
-    let b = c.in-Err.ensures in
-    let lt : x.len < 64 =
-    between_fits x.items x.len c.in-Err.place c.args.state x.short x.small x.rising c.if-state-ge-CAPACITY.false b in
-    record { within = b.within; fits = search rules }
+    let moved = c.copy_within.ensures.by_index in
+    inserted_small x.items _ x.len _ _ (search rules) moved.0 moved.1 c.in-Err.ensures.place.within c.if-state-ge-CAPACITY.false x.small
 
-pub invariant_of-self-in-Err : goal.invariant_of-self-in-Err
-invariant_of-self-in-Err c =
+pub invariant_of-self-clause-rising : goal.invariant_of-self-clause-rising
+invariant_of-self-clause-rising c =
     let x = c.args.self.now in
-    let v = c.args.state in
-    let at = c.in-Err.place in
-    let b = c.in-Err.ensures in
-    let ys = c.insert_at.new.items in
-    let e = c.insert_at.ensures in record { short = omega (arith, between_fits x.items x.len at v x.short x.small x.rising c.if-state-ge-CAPACITY.false b); small = inserted_small x.items ys x.len at v e b.within c.if-state-ge-CAPACITY.false x.small; rising = inserted_rises x.items ys x.len at v e b.within x.rising b }
+    let moved = c.copy_within.ensures.by_index in
+    let b = c.in-Err.ensures.place in
+    inserted_rises x.items _ x.len _ _ (search rules) moved.0 moved.1 b.within x.rising b
 
-pub returns-in-Ok : goal.returns-in-Ok
-returns-in-Ok c =
+pub returns-in-Err-clause-after : goal.returns-in-Err-clause-after
+returns-in-Err-clause-after c =
     let x = c.args.self.now in
-    let v = c.args.state in
-    let a = c.in-Ok.ensures in
-    record {
-      fits = sym (lt-ltb v 64 c.if-state-ge-CAPACITY.false);
-      after = has_there (among x.items x.len) v (among_at x.items x.len v _ a.within a.here);
-    }
+    let moved = c.copy_within.ensures.by_index in
+    inserted_has x.items _ x.len _ _ (search rules) moved.0 moved.1 c.in-Err.ensures.place.within
 
-pub returns-in-Err : goal.returns-in-Err
-returns-in-Err c =
+pub returns-in_default-clause-after : goal.returns-in_default-clause-after
+returns-in_default-clause-after c =
     let x = c.args.self.now in
-    record {
-      fits = sym (lt-ltb c.args.state 64 c.if-state-ge-CAPACITY.false);
-      after = inserted_has x.items c.insert_at.new.items x.len c.in-Err.place c.args.state c.insert_at.ensures c.in-Err.ensures.within;
-    }
+    has_there (among x.items x.len) c.args.state (sym c.in_default.ensures.member)

@@ -1,30 +1,36 @@
-use Rattle.std.proofs.Common.{arith}
+use Rattle.std.proofs.Common.{rules, sym, ap, ◌∙◌}
 use Rattle.sets.specs.Sorted.{among}
 use Rattle.sets.proofs.MemberLaws.{has_not}
-use Rattle.sets.proofs.SortedLaws.{above_none, between_none, removed_has, removed_small, removed_rises}
+use Rattle.sets.proofs.SortedLaws.{above_none, removed_has, removed_small, removed_rises}
 use Rattle.sets.proofs.sorted_list.SortedListStateSet.take.Goals as goal
-
-pub returns-then-state-ge-CAPACITY : goal.returns-then-state-ge-CAPACITY
-returns-then-state-ge-CAPACITY c =
-    let x = c.args.self.now in
-    has_not (among x.items x.len) c.args.state (above_none x.items x.len c.args.state x.small c.if-state-ge-CAPACITY.true)
-
-pub invariant_of-self : goal.invariant_of-self
-invariant_of-self c =
-    let x = c.args.self.now in
-    let at = c.in-Ok.place in
-    let a = c.in-Ok.ensures in
-    let ys = c.remove_at.new.items in
-    let e = c.remove_at.ensures in record { short = omega (arith, x.short); small = removed_small x.items ys x.len at c.args.state e a.within a.here x.rising x.small; rising = removed_rises x.items ys x.len at c.args.state e a.within a.here x.rising }
-
-pub returns-in-Ok : goal.returns-in-Ok
-returns-in-Ok c =
-    let x = c.args.self.now in
-    let a = c.in-Ok.ensures in
-    removed_has x.items c.remove_at.new.items x.len c.in-Ok.place c.args.state c.remove_at.ensures a.within a.here x.rising
 
 pub returns-in_default : goal.returns-in_default
 returns-in_default c =
     let x = c.args.self.now in
-    let b = c.in_default.ensures in
-    has_not (among x.items x.len) c.args.state (between_none x.items x.len _ c.args.state x.rising b)
+    has_not (among x.items x.len) c.args.state (above_none x.items x.len c.args.state x.small (search rules))
+
+pub invariant_of-self-clause-small : goal.invariant_of-self-clause-small
+invariant_of-self-clause-small c =
+    let x = c.args.self.now in
+    let a = c.in-Ok-find.ensures.place in
+    let moved = c.copy_within.ensures.by_index in
+    removed_small x.items _ x.len _ _ moved.0 moved.1 a.within a.here x.rising x.small
+
+pub invariant_of-self-clause-rising : goal.invariant_of-self-clause-rising
+invariant_of-self-clause-rising c =
+    let x = c.args.self.now in
+    let a = c.in-Ok-find.ensures.place in
+    let moved = c.copy_within.ensures.by_index in
+    removed_rises x.items _ x.len _ _ moved.0 moved.1 a.within a.here x.rising
+
+pub returns-in-Ok-find : goal.returns-in-Ok-find
+returns-in-Ok-find c =
+    let x = c.args.self.now in
+    let a = c.in-Ok-find.ensures.place in
+    let moved = c.copy_within.ensures.by_index in
+    removed_has x.items _ x.len _ c.args.state moved.0 moved.1 a.within (a.here ∙ c.in-Ok.ensures.1) x.rising
+
+pub returns-in_default-find : goal.returns-in_default-find
+returns-in_default-find c =
+    let x = c.args.self.now in
+    has_not (among x.items x.len) c.args.state (ap (among x.items x.len) (sym c.in-Ok.ensures.1) ∙ sym c.in_default-find.ensures.member)

@@ -1,18 +1,17 @@
-use Rattle.std.proofs.Common.{true, false, sym, arith}
-use Rattle.sheets.proofs.Holding.{count_none, count_more}
+use Rattle.std.proofs.Common.{◌≡◌, ℕ, zero, suc, ◌+◌, cond, refl, sym, ap, ◌∙◌, rules}
+use Rattle.semantics.specs.Sets.{count}
+use Rattle.sets.proofs.Ranges.{count_upto}
+use Rattle.sheets.specs.declared.holders.Holders.{Holders}
+use Rattle.sheets.specs.Holding.{held, held_count}
 use Rattle.sheets.proofs.holders.Holders.count.Goals as goal
-use Rattle.sheets.proofs.holders.Holders.count.Goals.{then-has, else-has}
 
-pub loop-channel-init : goal.loop-channel-init
-loop-channel-init c = (sym (count_none c.args.self.now c.args.party), omega arith)
+counted : (h : Holders) (p n : ℕ) → held_count n h p ≡ count n (λ c. held h c p)
+unfolding held_count
+counted h p zero = refl
+counted h p (suc n) = ap (λ m. cond (held h n p) 1 0 + m) (counted h p n)
 
-pub loop-channel-preserved : goal.loop-channel-preserved
-loop-channel-preserved c =
-    let h = c.args.self.now in
-    let p = c.args.party in
-    let i = c.loop-channel.channel in
-    let m = c.loop-channel.count in
-    elim c.if-has.branch [
-      | then-has w ↦ (omega (arith, w.count-is, count_more h p i m true (sym w.if-has.ensures) c.loop-channel.invariant.0), omega (arith, w.count-is))
-      | else-has w ↦ (omega (arith, w.count-is, count_more h p i m false (sym w.if-has.ensures) c.loop-channel.invariant.0), omega (arith, w.count-is))
-    ]
+pub returns-clause-value : goal.returns-clause-value
+returns-clause-value c =
+    count_upto (λ k. held c.args.self.now k c.args.party)
+    c.filter.ensures.source c.filter.ensures.closure c.count.ensures.ran (λ x b q k. (search rules, search rules))
+    ∙ sym (counted c.args.self.now c.args.party 8)

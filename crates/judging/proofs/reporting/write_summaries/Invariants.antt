@@ -1,6 +1,0 @@
-use Rattle.texts.specs.Written.{Gave, texts_below}
-use Rattle.judging.specs.Reporting.{kept_text}
-use Rattle.judging.proofs.reporting.write_summaries.Given as goal
-
-abbrev pub invariant-loop-k : goal.invariant-loop-k
-invariant-loop-k l = Gave l.initial.writer (texts_below l.k (kept_text l.summaries)) l.writer

@@ -1,6 +1,0 @@
-use Rattle.std.proofs.Common.{◌≡◌, ℕ}
-use Rattle.semantics.specs.Sets.{below, into}
-use Rattle.search.proofs.next_search.next.Given as goal
-
-abbrev pub invariant-loop-from : goal.invariant-loop-from
-invariant-loop-from g l = (k : ℕ) → g.S.StateSet.holds l.set k ≡ below l.from (into l.states (g.R.StepRule.steps l.rule) (g.G.StateSet.holds l.goal)) k

@@ -1,7 +1,0 @@
-use Rattle.std.proofs.Common.{rules}
-use Rattle.sheets.specs.Model.{model_of}
-use Rattle.sheets.proofs.sheet.Sheet.moves.Goals as goal
-
-pub returns : goal.returns
-unfolding model_of
-returns c = search rules
