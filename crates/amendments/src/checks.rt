@@ -7,11 +7,9 @@ ghost use Rattle.amendments.specs.Edits.{edit_of, value_of, refusal_in};
 
 use crate::edit::{Edit, Value};
 use search::StepRule;
+use sheets::limits::MOVE_LIMIT;
 use sheets::sheet::Sheet;
 use texts::refusal::Refusal;
-
-/// How many moves a sheet may have.
-const MOVE_LIMIT: usize = 1024;
 
 /// The largest position and the largest copy.
 const LARGEST: usize = 999;

@@ -5,4 +5,6 @@ mod bench;
 mod responding;
 
 pub use bench::Bench;
+pub use judging::judge::WORK_LENGTH;
 pub use responding::respond;
+pub use sheets::limits::TEXT_LIMIT;

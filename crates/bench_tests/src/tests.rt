@@ -1,5 +1,5 @@
 use crate::examples::{INACCESSIBLE, SEVEN, chain};
-use bench::Bench;
+use bench::{Bench, WORK_LENGTH};
 use judging::judge::Judgement;
 use sets::{BitSet, SortedList, StateSet};
 use std::process::Abort;
@@ -22,7 +22,7 @@ fn judges<S: StateSet>(
     verdict: bool,
     rounds: usize,
 ) {
-    let mut work = [0; 16_384];
+    let mut work = [0; WORK_LENGTH];
     set.clear();
     let _ = set.put(50);
     assert_eq!(rt;
@@ -65,8 +65,8 @@ fn a_commitment_holds_where_nothing_is_accessible(rt: HostRuntime) -> Result<(),
 #[test]
 fn refusals_leave_the_set(rt: HostRuntime) -> Result<(), Fail> {
     let mut bench = Bench::blank(rt.alloc())?;
-    let mut work = [0; 16_384];
-    let mut short = [0; 16_383];
+    let mut work = [0; WORK_LENGTH];
+    let mut short = [0; WORK_LENGTH - 1];
     let mut set = SortedList::new();
     let _ = set.put(7);
     assert_eq!(rt; bench.judge(0, &mut work, &mut set), Err(Refusal::Blank));

@@ -3,7 +3,7 @@
 #![tactic(auto)]
 
 use anyhow::anyhow;
-use bench::{Bench, respond};
+use bench::{Bench, WORK_LENGTH, respond};
 use sets::SortedList;
 use std::fs;
 use std::io::Write;
@@ -50,7 +50,7 @@ fn answer(
 fn run(rt: &HostRuntime) -> anyhow::Result<()> {
     let heap = rt.alloc();
     let mut bench = Bench::blank(heap)?;
-    let mut work = vec![in heap; 0u8; 16_384]?;
+    let mut work = vec![in heap; 0u8; WORK_LENGTH]?;
     let mut out = vec![in heap; 0u8; 1024]?;
     let mut other = vec![in heap; 0u8; 1024]?;
     for case in 0..CASES {

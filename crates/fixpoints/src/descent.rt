@@ -69,9 +69,7 @@ pub fn until_path<R: StepRule, F: StateSet, H: StateSet, S: StateSet>(
     ensures path { IfOk result (PathTo graph.now.states (R.steps graph.now.rule.now) (F.holds first.now) (H.holds second.now) state path.old path.new) }
 {
     let small = SmallGraph::new(graph, S::limit(), slots.len())?;
-    if graph.states > path.len() {
-        return Err(NoRoom);
-    }
+    small.check_path(path)?;
     let mut order = Stack::new(slots);
     let _ = small.until_order(first, second, set, &mut order);
     let order = order.as_slice();

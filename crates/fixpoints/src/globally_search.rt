@@ -22,7 +22,7 @@ fn remove_all<S: StateSet>(stack: &mut Stack<'_, u8>, set: &mut S)
 
 impl<R: StepRule> SmallGraph<'_, R> {
     /// Whether `state` is one of `set` that has no step into it.
-    /// The search for a step goes on where the last one ended, so that no step is asked for twice.
+    /// The search for a step goes on where the last one ended, so that only the step that was found is asked for again.
     fn leaves<S: StateSet>(&self, state: usize, set: &S, starts: &mut [u8]) -> bool
         requires below { state < self.now.states }
         requires starts { Starts self.now.states (R.steps self.now.rule.now) (S.holds set.now) starts.old }
@@ -84,7 +84,7 @@ impl<R: StepRule> SmallGraph<'_, R> {
         ensures after { Found self.now.states (globally_chain self.now.states (R.steps self.now.rule.now) (F.holds operand.now)) (S.holds set.new) result }
         ensures inside { Inside self.now.states (R.steps self.now.rule.now) (F.holds operand.now) (S.holds set.new) }
     {
-        let _ = copy(self.states, operand, set);
+        copy(self.states, operand, set).unwrap();
         let (starts, rest) = slots.split_at_mut(self.states);
         starts.fill(0);
         let mut stack = Stack::new(rest);

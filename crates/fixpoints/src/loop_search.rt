@@ -61,9 +61,7 @@ pub fn globally_path<R: StepRule, F: StateSet, S: StateSet>(
     ensures path { IfOk result (PathBack graph.now.states (R.steps graph.now.rule.now) (F.holds operand.now) state path.old path.new) }
 {
     let small = SmallGraph::new(graph, S::limit(), slots.len())?;
-    if graph.states > path.len() {
-        return Err(NoRoom);
-    }
+    small.check_path(path)?;
     let _ = small.globally_rounds(operand, set, slots);
     if !set.has(state) {
         return Ok(None);

@@ -1,4 +1,4 @@
-ghost use Rattle.std.specs.Prelude.{◌≡◌, ◌≤◌, is_ok, IfOk};
+ghost use Rattle.std.specs.Prelude.{◌≡◌, ◌≤◌, length, is_ok, IfOk, nat_le};
 ghost use Rattle.fixpoints.specs.Searches.{enough};
 ghost use Rattle.search.specs.Next.{FirstStep};
 
@@ -26,6 +26,18 @@ impl<'a, R> SmallGraph<'a, R> {
             rule: graph.rule,
             states: graph.states,
         })
+    }
+}
+
+impl<R> SmallGraph<'_, R> {
+    /// Refuses where a path of that length cannot name each state once.
+    pub(crate) fn check_path(&self, path: &[u8]) -> Result<(), NoRoom>
+        ensures { is_ok result ≡ nat_le self.now.states (length path.now) }
+    {
+        if self.states > path.len() {
+            return Err(NoRoom);
+        }
+        Ok(())
     }
 }
 

@@ -101,7 +101,7 @@ impl<R: StepRule> SmallGraph<'_, R> {
         ensures listing { Listing self.now.states (S.holds set.new) order.new }
         ensures ordered { Ordered (R.steps self.now.rule.now) (F.holds first.now) (H.holds second.now) (contents order.new) }
     {
-        let _ = copy(self.states, second, set);
+        copy(self.states, second, set).unwrap();
         self.push_members(set, order);
         let mut done = 0;
         let mut rounds = 0;

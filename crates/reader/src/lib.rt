@@ -1,7 +1,7 @@
 //! Reads a sheet's text.
 #![tactic(auto)]
 
-mod front;
+mod preamble;
 mod readers;
 mod reading;
 mod row_reader;

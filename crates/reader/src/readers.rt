@@ -2,7 +2,7 @@ ghost use Rattle.std.specs.Prelude.{◌≡◌, ◌^◌, ◌<◌, ◌≤◌, true
 ghost use Rattle.sheets.specs.Fitting.{copies_fit, local_fits, state_fits};
 ghost use Rattle.reader.specs.Readers.{Bounded, header_of, pair_of, state_of, copies_from, local_of};
 
-use crate::front::Front;
+use crate::preamble::Preamble;
 use sets::BitSet;
 use sheets::holders::Holders;
 use sheets::parts::{Header, Local, State};
@@ -65,7 +65,7 @@ fn mark_sums(marks: u8) -> u32
     1 << marks
 }
 
-impl Front {
+impl Preamble {
     /// The line of the state number `due`, with nothing known to the parties yet and no moves.
     pub(crate) fn state_line(&self, mut line: Line<'_>, due: u8) -> Result<State, Fault>
         ensures value { result ≡ state_of line.entry.line line.entry.count line.entry.rest.now self.now.header due }

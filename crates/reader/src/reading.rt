@@ -4,11 +4,12 @@ ghost use Rattle.sheets.specs.Fits.{Fits};
 ghost use Rattle.sheets.specs.Fitting.{state_fits};
 ghost use Rattle.reader.specs.Reading.{WholeStates, StatesRead, MovesRead, RowsRead, Filled};
 
-use crate::front::Front;
+use crate::preamble::Preamble;
 use crate::readers::{header_line, pair_line};
 use search::Graph;
 use sets::StateSet;
 use sheets::holders::Holders;
+use sheets::limits::{MOVE_LIMIT, ROW_LIMIT, TEXT_LIMIT};
 use sheets::moves::Moves;
 use sheets::parts::State;
 use sheets::sheet::Sheet;
@@ -16,18 +17,9 @@ use sheets::tables::Tables;
 use texts::lines::{Lines, check_whole};
 use texts::refusal::{Fault, Refusal};
 
-/// How many bytes a sheet's text may have.
-const TEXT_LIMIT: usize = 65_536;
-
-/// How many moves a sheet may have.
-const MOVE_LIMIT: usize = 1024;
-
-/// How many formula lines a sheet may have.
-const ROW_LIMIT: usize = 64;
-
-impl Front {
+impl Preamble {
     /// Reads the H line, and the C lines: who holds which channel.
-    fn read(lines: &mut Lines<'_>) -> Result<Front, Fault> {
+    fn read(lines: &mut Lines<'_>) -> Result<Preamble, Fault> {
         let header = header_line(lines.due(b'H')?)?;
         let mut holders = Holders::none();
         let mut last = None;
@@ -41,7 +33,7 @@ impl Front {
             holders.add(holder.first as usize, holder.second as usize);
             last = Some(holder);
         }
-        Ok(Front { header, holders })
+        Ok(Preamble { header, holders })
     }
 
     /// Reads the S lines into the table of states.
@@ -149,20 +141,20 @@ fn check_states(states: &[State]) -> Result<(), Fault>
 }
 
 /// Reads a sheet's text into the tables, whatever they held.
-fn fill(tables: &mut Tables, text: &[u8]) -> Result<Front, Fault>
+fn fill(tables: &mut Tables, text: &[u8]) -> Result<Preamble, Fault>
     ensures { IfOk result (λ f. Filled f.header f.holders tables.new) }
 {
     check_whole(text, TEXT_LIMIT)?;
     let mut lines = Lines::new(text);
-    let front = Front::read(&mut lines)?;
-    front.read_states(&mut lines, tables)?;
+    let preamble = Preamble::read(&mut lines)?;
+    preamble.read_states(&mut lines, tables)?;
     let states = tables.states.as_mut_slice();
-    front.read_all_locals(&mut lines, states)?;
-    front.read_moves(&mut lines, states)?;
-    front.read_rows(&mut lines, tables)?;
+    preamble.read_all_locals(&mut lines, states)?;
+    preamble.read_moves(&mut lines, states)?;
+    preamble.read_rows(&mut lines, tables)?;
     lines.finish()?;
     check_states(&tables.states)?;
-    Ok(front)
+    Ok(preamble)
 }
 
 /// Reads a sheet's text. The spare tables are then those of the sheet that was there, or hold nothing of
@@ -171,7 +163,7 @@ pub fn read(sheet: &mut Sheet, spare: &mut Tables, text: &[u8]) -> Result<(), Fa
     ensures kept { OnErr result (sheet.new ≡ sheet.old) }
     ensures fits { OnOk result (Fits sheet.new) }
 {
-    let Front { header, holders } = fill(spare, text)?;
+    let Preamble { header, holders } = fill(spare, text)?;
     std::mem::swap(&mut sheet.tables, spare);
     sheet.header = header;
     sheet.holders = holders;

@@ -3,7 +3,7 @@ ghost use Rattle.sheets.specs.Operators.{kinds_of};
 ghost use Rattle.sheets.specs.Rows.{fits, sharing, sound_row};
 ghost use Rattle.reader.specs.RowFields.{operand_of, behind, operands_of, earlier_of, Within, AllWithin, checked_row, fields_of, row_of};
 
-use crate::front::Front;
+use crate::preamble::Preamble;
 use sheets::operator::{Kind, Operator, operator_field};
 use sheets::parts::{Header, Row};
 use texts::field::field;
@@ -46,7 +46,7 @@ fn operands(line: &mut Line<'_>, kinds: [Kind; 3], header: Header) -> Result<[u3
 /// A formula line of a sheet, which is to be the line numbered `due`.
 #[derive(Drop)]
 struct RowReader<'a> {
-    front: &'a Front,
+    preamble: &'a Preamble,
     line: Line<'a>,
     due: u8,
 }
@@ -54,9 +54,9 @@ struct RowReader<'a> {
 impl RowReader<'_> {
     /// The operand, refused where it is a line that does not stand before this one.
     fn earlier(&self, kind: Kind, field_number: usize, operand: u32) -> Result<u8, Fault>
-        requires { Within kind self.now.front.now.header operand }
+        requires { Within kind self.now.preamble.now.header operand }
         ensures value { result ≡ earlier_of self.now.line.line field_number kind self.now.due operand }
-        ensures fits { IfOk result (λ x. fits kind self.now.front.now.header self.now.due x ≡ true) }
+        ensures fits { IfOk result (λ x. fits kind self.now.preamble.now.header self.now.due x ≡ true) }
     {
         match kind {
             Kind::Line if operand >= u32::from(self.due) => Err(
@@ -68,11 +68,11 @@ impl RowReader<'_> {
 
     /// Whether the debtor and the creditor share a channel, where the operator has such.
     fn shares(&self, operator: Operator, debtor: u8, creditor: u8) -> bool
-        ensures { result ≡ sharing self.now.front.now.holders operator debtor creditor }
+        ensures { result ≡ sharing self.now.preamble.now.holders operator debtor creditor }
     {
         match operator {
             Operator::Commitment | Operator::Fulfilment => self
-                .front
+                .preamble
                 .holders
                 .share(usize::from(debtor), usize::from(creditor)),
             _ => true,
@@ -81,9 +81,9 @@ impl RowReader<'_> {
 
     /// The row, once its fields are known to be numbers in their ranges.
     fn checked_row(&self, operator: Operator, operands: [u32; 3]) -> Result<Row, Fault>
-        requires { AllWithin (kinds_of operator) self.now.front.now.header operands }
-        ensures value { result ≡ checked_row self.now.line.line self.now.front.now.holders self.now.due operator operands }
-        ensures sound { IfOk result (λ row. sound_row self.now.front.now.header self.now.front.now.holders self.now.due row ≡ true) }
+        requires { AllWithin (kinds_of operator) self.now.preamble.now.header operands }
+        ensures value { result ≡ checked_row self.now.line.line self.now.preamble.now.holders self.now.due operator operands }
+        ensures sound { IfOk result (λ row. sound_row self.now.preamble.now.header self.now.preamble.now.holders self.now.due row ≡ true) }
     {
         let [first_kind, second_kind, third_kind] = operator.kinds();
         let [first, second, third] = operands;
@@ -101,15 +101,15 @@ impl RowReader<'_> {
 
     /// The row of a known operator: its number is given, and the fields that are left are its operands.
     fn row(mut self, number: &[u8], operator: Operator) -> Result<Row, Fault>
-        ensures value { result ≡ fields_of self.entry.line.line number.now self.entry.line.rest.now operator self.entry.front.now.header self.entry.front.now.holders self.entry.due }
-        ensures sound { IfOk result (λ row. sound_row self.entry.front.now.header self.entry.front.now.holders self.entry.due row ≡ true) }
+        ensures value { result ≡ fields_of self.entry.line.line number.now self.entry.line.rest.now operator self.entry.preamble.now.header self.entry.preamble.now.holders self.entry.due }
+        ensures sound { IfOk result (λ row. sound_row self.entry.preamble.now.header self.entry.preamble.now.holders self.entry.due row ≡ true) }
     {
         let place = Place {
             line: self.line.line,
             field: 2,
         };
         let number = field(number, 0..100_000, place)?;
-        let header = self.front.header;
+        let header = self.preamble.header;
         let operands = operands(&mut self.line, operator.kinds(), header)?;
         if number != u32::from(self.due) {
             return Err(self.line.fault(Refusal::OutOfOrder, 2));
@@ -118,7 +118,7 @@ impl RowReader<'_> {
     }
 }
 
-impl Front {
+impl Preamble {
     /// The formula line numbered `due`, which is taken as far as its letter first.
     pub(crate) fn row_line(&self, mut line: Line<'_>, due: u8) -> Result<Row, Fault>
         ensures value { result ≡ row_of line.entry.line line.entry.count line.entry.rest.now self.now.header self.now.holders due }
@@ -133,7 +133,7 @@ impl Front {
         };
         line.expect(count)?;
         let reader = RowReader {
-            front: self,
+            preamble: self,
             line,
             due,
         };

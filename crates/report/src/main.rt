@@ -2,18 +2,17 @@
 #![tactic(auto)]
 
 use anyhow::anyhow;
-use bench::{Bench, respond};
+use bench::{Bench, TEXT_LIMIT, WORK_LENGTH, respond};
 use std::io::{Read, Write};
-
-/// One byte more than a sheet's text may have, so that a longer one is seen to be longer.
-const MOST: u64 = 65_537;
 
 fn run(rt: &HostRuntime) -> anyhow::Result<()> {
     let heap = rt.alloc();
     let mut bench = Bench::blank(heap)?;
     let mut text = Vec::new(heap);
-    let _ = rt.stdin().take(MOST).read_to_end(&mut text)?;
-    let mut work = vec![in heap; 0u8; 16_384]?;
+    // One byte more than a sheet's text may have, so that a longer one is seen to be longer.
+    let most = TEXT_LIMIT as u64 + 1;
+    let _ = rt.stdin().take(most).read_to_end(&mut text)?;
+    let mut work = vec![in heap; 0u8; WORK_LENGTH]?;
     let mut out = vec![in heap; 0u8; 1024]?;
     match respond(
         &mut bench,

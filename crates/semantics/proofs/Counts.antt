@@ -1,14 +1,11 @@
 -- Laws of the count of the states below n.
-use Rattle.std.proofs.Common.{◌≡◌, ℕ, zero, suc, ◌+◌, ◌<◌, ◌≤◌, Bool, true, false, cond, sym, refl, ap, ◌∙◌, inl, inr, add-one, arith}
+use Rattle.std.proofs.Common.{◌≡◌, ℕ, zero, suc, ◌+◌, ◌<◌, ◌≤◌, Bool, true, false, cond, sym, refl, ap, ◌∙◌, inl, inr, arith}
 use Rattle.std.proofs.lemmas.Bool.{cases_eq}
 use Rattle.semantics.specs.Sets.{count}
 
 -- what one state adds to a count
 abbrev one : Bool → ℕ
 one b = cond b 1 0
-
-pub count_more : (n : ℕ) (m : ℕ → Bool) (b : Bool) → b ≡ m n → count (n + 1) m ≡ one b + count n m
-count_more n m b e = rw (add-one, ← e)
 
 one_le : (b : Bool) → one b ≤ 1
 one_le true = omega arith

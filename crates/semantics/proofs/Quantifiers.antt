@@ -1,7 +1,7 @@
 -- What the tests over the numbers below n say.
-use Rattle.std.proofs.Common.{◌≡◌, ℕ, zero, suc, ◌+◌, ◌<◌, ◌≤◌, Bool, true, false, cond, ◌&&◌, Decides, sym, refl, inl, inr, add-one, arith}
+use Rattle.std.proofs.Common.{◌≡◌, ℕ, zero, suc, ◌<◌, ◌≤◌, Bool, true, false, cond, ◌&&◌, Decides, sym, refl, inl, inr, arith}
 use mathlib.Core.Bool.{beq}
-use Rattle.std.proofs.lemmas.Bool.{both_ways, cases_Bool, or_from, and_from}
+use Rattle.std.proofs.lemmas.Bool.{both_ways, cases_Bool}
 use Rattle.std.proofs.lemmas.Bool.Decides.{Decides-below_or, Decides-below_and}
 use Rattle.semantics.specs.Sets.{any, all, least, same}
 
@@ -27,21 +27,12 @@ any_never n p none = elim (cases_Bool (any n p)) [
   | inr h ↦ h
 ]
 
-pub any_none_more : (n : ℕ) (p : ℕ → Bool) → p n ≡ false → any n p ≡ false → any (n + 1) p ≡ false
-any_none_more n p h t = rw add-one (or_from (p n) (any n p) h t)
-
 -- fewer that pass, and still none
 pub any_none_fewer : (n : ℕ) (p q : ℕ → Bool) → ((k : ℕ) → q k ≡ true → p k ≡ true) → any n p ≡ false → any n q ≡ false
 any_none_fewer n p q sub e = any_never n q (λ k l. elim (cases_Bool (q k)) [
   | inl h ↦ absurd (both_ways (p k) (any_none n p e k l) (sub k h))
   | inr h ↦ h
 ])
-
-pub all_more : (n : ℕ) (p : ℕ → Bool) → p n ≡ true → all n p ≡ true → all (n + 1) p ≡ true
-all_more n p h t = rw add-one (and_from (p n) (all n p) h t)
-
-pub all_not : (n : ℕ) (p : ℕ → Bool) (k : ℕ) → k < n → p k ≡ false → all n p ≡ false
-all_not n p k l h = elim (cases_Bool (all n p)) [ inl e ↦ absurd (both_ways (p k) h ((all_says n p).0 e k l)) | inr e ↦ e ]
 
 beq_says : (a b : Bool) → Decides (beq a b) (a ≡ b)
 beq_says true true = (λ _. refl, λ _. refl)

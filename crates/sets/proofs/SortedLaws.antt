@@ -10,7 +10,7 @@ use Rattle.std.proofs.lemmas.List.Sorted.{searched}
 use Rattle.std.proofs.lemmas.Bool.{cases_order, cases_lt, cases_eq, or_cases, or_left, or_right, eqb-true, eq-eqb, ne_eqb, both_ways, and_parts, and_from, not-true, not_from_false, cases_Bool}
 use Rattle.sets.proofs.MemberLaws.{same_from}
 use Rattle.sets.specs.Bounds.{among_found, among_small}
-use Rattle.sets.specs.Sorted.{Small, Rising, among, At, Gap}
+use Rattle.sets.specs.Sorted.{Small, Rising, among, At, InsertionPoint}
 
 among_at : (xs : List ℕ) (n k i : ℕ) → i < n → slice_index xs i ≡ k → among xs n k ≡ true
 among_at xs zero k i l e = absurd (omega arith)
@@ -22,7 +22,7 @@ among_at xs (suc n) k i l e = elim (cases_eq i n) [
 -- what is found in the first n of a list, said of the list
 found_there : (xs : List ℕ) (n v : ℕ) → n ≤ length xs → (r : Result ℕ ℕ) →
     MatchResult r (λ i. (i < length (take n xs)) × (get_or (take n xs) i 0 ≡ v)) (λ i. (i ≤ length (take n xs)) × ((k : ℕ) → k < i → get_or (take n xs) k 0 < v) × ((k : ℕ) → i ≤ k → k < length (take n xs) → v < get_or (take n xs) k 0)) →
-    MatchResult r (λ i. At xs n i v) (λ i. Gap xs n i v)
+    MatchResult r (λ i. At xs n i v) (λ i. InsertionPoint xs n i v)
 found_there xs n v l (Ok i) f =
     let len = length-take-le n xs l in
     let within : i < n = omega (arith, f.0, len) in
@@ -38,7 +38,7 @@ found_there xs n v l (Err i) f =
 
 -- what a binary search of the first n finds, where these rise
 pub found_in : (xs : List ℕ) (n v : ℕ) (r : Result ℕ ℕ) → n ≤ length xs → Rising xs n → IsBinarySearchResult (λ y. nat_cmp y v) (take n xs) r →
-    MatchResult r (λ i. At xs n i v) (λ i. Gap xs n i v)
+    MatchResult r (λ i. At xs n i v) (λ i. InsertionPoint xs n i v)
 found_in xs n v r l s b =
     let len = length-take-le n xs l in
     found_there xs n v l r (searched (take n xs) v r b (λ i j h m. elim (cases_eq i j) [
@@ -46,8 +46,8 @@ found_in xs n v r l s b =
       | inr ne ↦ omega (arith, ne, len, get_or-take n xs i 0 (omega (arith, ne, len)), get_or-take n xs j 0 (omega (arith, len)), s i j (omega (arith, ne)) (omega (arith, len)))
     ]))
 
-gap_none : (xs : List ℕ) (n at v : ℕ) → Gap xs n at v → among xs n v ≡ false
-gap_none xs n at v b = elim (cases_Bool (among xs n v)) [
+insertion_none : (xs : List ℕ) (n at v : ℕ) → InsertionPoint xs n at v → among xs n v ≡ false
+insertion_none xs n at v b = elim (cases_Bool (among xs n v)) [
   | inl h ↦ (let f = among_found xs n v h in
       elim (cases_lt f.0 at) [
         | inl l ↦ absurd (omega (arith, b.before f.0 l, f.2))
@@ -66,7 +66,7 @@ stays_under : (xs : List ℕ) → Small xs 64 → Rising xs 64 → (d i : ℕ) �
 stays_under xs s r zero i e = omega (arith, s i (omega arith))
 stays_under xs s r (suc d) i e = omega (arith, stays_under xs s r d (i + 1) (omega arith), r i (i + 1) (omega arith) (omega arith))
 
-full : (xs : List ℕ) (at v : ℕ) → Small xs 64 → Rising xs 64 → v < 64 → Gap xs 64 at v → ⊥
+full : (xs : List ℕ) (at v : ℕ) → Small xs 64 → Rising xs 64 → v < 64 → InsertionPoint xs 64 at v → ⊥
 full xs zero v s r h b = omega (arith, b.above 0 (omega arith) (omega arith), stays_under xs s r 63 0 (omega arith))
 full xs (suc p) v s r h b = elim (cases_lt (suc p) 64) [
   | inl q ↦ omega (arith, b.above (suc p) (omega arith) q, stays_under xs s r (63 - suc p) (suc p) (omega arith), b.before p (omega arith), climbs xs 64 r p (omega arith))
@@ -74,20 +74,20 @@ full xs (suc p) v s r h b = elim (cases_lt (suc p) 64) [
 ]
 
 -- a full list has every number, so one that lacks v has a place left
-gap_fits : (xs : List ℕ) (n at v : ℕ) → n ≤ 64 → Small xs n → Rising xs n → v < 64 → Gap xs n at v → n < 64
-gap_fits xs n at v h s r small b = elim (cases_lt n 64) [
+insertion_fits : (xs : List ℕ) (n at v : ℕ) → n ≤ 64 → Small xs n → Rising xs n → v < 64 → InsertionPoint xs n at v → n < 64
+insertion_fits xs n at v h s r small b = elim (cases_lt n 64) [
   | inl q ↦ q
   | inr q ↦ (let e : n ≡ 64 = omega arith in
-      absurd (full xs at v (subst (Small xs) e s) (subst (Rising xs) e r) small (subst (λ m. Gap xs m at v) e b)))
+      absurd (full xs at v (subst (Small xs) e s) (subst (Rising xs) e r) small (subst (λ m. InsertionPoint xs m at v) e b)))
 ]
 
-pub found_member : (xs : List ℕ) (n v : ℕ) (r : Result ℕ ℕ) → MatchResult r (λ i. At xs n i v) (λ i. Gap xs n i v) → is_ok r ≡ among xs n v
+pub found_member : (xs : List ℕ) (n v : ℕ) (r : Result ℕ ℕ) → MatchResult r (λ i. At xs n i v) (λ i. InsertionPoint xs n i v) → is_ok r ≡ among xs n v
 found_member xs n v (Ok i) a = sym (among_at xs n v i a.within a.here)
-found_member xs n v (Err i) b = sym (gap_none xs n i v b)
+found_member xs n v (Err i) b = sym (insertion_none xs n i v b)
 
-pub room_left : (xs : List ℕ) (n v : ℕ) (r : Result ℕ ℕ) → n ≤ 64 → Small xs n → Rising xs n → MatchResult r (λ i. At xs n i v) (λ i. Gap xs n i v) → OnErr r (v < 64 → n < 64)
+pub room_left : (xs : List ℕ) (n v : ℕ) (r : Result ℕ ℕ) → n ≤ 64 → Small xs n → Rising xs n → MatchResult r (λ i. At xs n i v) (λ i. InsertionPoint xs n i v) → OnErr r (v < 64 → n < 64)
 room_left xs n v (Ok i) h s r b = tt
-room_left xs n v (Err i) h s r b = λ small. gap_fits xs n i v h s r small b
+room_left xs n v (Err i) h s r b = λ small. insertion_fits xs n i v h s r small b
 
 -- the rest of the first n moved up by one, and v put in
 module _ (xs zs : List ℕ) (n at v : ℕ) (w : at < length zs) (m : CopiedTo xs zs at (at + 1) (n - at)) (b : SameBelow xs zs (at + 1)) (l : at ≤ n) where
@@ -134,7 +134,7 @@ module _ (xs zs : List ℕ) (n at v : ℕ) (w : at < length zs) (m : CopiedTo xs
     ]
   ]
 
-  pub inserted_rises : Rising xs n → Gap xs n at v → Rising ys (n + 1)
+  pub inserted_rises : Rising xs n → InsertionPoint xs n at v → Rising ys (n + 1)
   inserted_rises r b i j h m = elim (cases_order j at) [
     | inl e ↦ omega (arith, ap (λ u. slice_index ys u) e, here, before i (omega arith), b.before i (omega arith))
     | inr q ↦ elim q [

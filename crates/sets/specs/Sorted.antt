@@ -20,7 +20,7 @@ pub record At (xs : List ℕ) (n place v : ℕ) : Type 0 where
   pub here : slice_index_or xs place 0 ≡ v
 
 -- a place for v, which the first n lack: those before it are below v, those from it on above
-pub record Gap (xs : List ℕ) (n place v : ℕ) : Type 0 where
+pub record InsertionPoint (xs : List ℕ) (n place v : ℕ) : Type 0 where
   pub within : place ≤ n
   pub before : (k : ℕ) → k < place → slice_index xs k < v
   pub above : (k : ℕ) → place ≤ k → k < n → v < slice_index xs k

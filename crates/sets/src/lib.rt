@@ -22,7 +22,7 @@ pub trait StateSet {
 
     ghost holds: { Self → ℕ → Bool };
 
-    /// The capacity.
+    /// The capacity, as a call: what code that is generic over the kind of set asks for.
     fn limit() -> usize
         ensures { result ≡ CAPACITY }
     {

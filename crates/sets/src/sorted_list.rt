@@ -1,5 +1,5 @@
 ghost use Rattle.std.specs.Prelude.{◌≡◌, ℕ, ◌<◌, ◌≤◌, false, MatchResult, OnErr, is_ok};
-ghost use Rattle.sets.specs.Sorted.{Small, Rising, among, At, Gap};
+ghost use Rattle.sets.specs.Sorted.{Small, Rising, among, At, InsertionPoint};
 ghost use Rattle.sets.specs.Bounds.{among_small};
 
 use crate::StateSet;
@@ -28,7 +28,7 @@ impl SortedList {
 
     // Where `value` is, or else the place to put it in.
     fn find(&self, value: u8) -> Result<usize, usize>
-        ensures place { MatchResult result (λ place. At self.now.items self.now.len place value) (λ place. Gap self.now.items self.now.len place value) }
+        ensures place { MatchResult result (λ place. At self.now.items self.now.len place value) (λ place. InsertionPoint self.now.items self.now.len place value) }
         ensures member { is_ok result ≡ among self.now.items self.now.len value }
         ensures room { OnErr result (value < 64 → self.now.len < 64) }
     {

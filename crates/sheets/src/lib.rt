@@ -2,6 +2,7 @@
 #![tactic(auto)]
 
 pub mod holders;
+pub mod limits;
 pub mod moves;
 pub mod operator;
 pub mod parts;

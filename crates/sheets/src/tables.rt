@@ -1,5 +1,6 @@
 ghost use Rattle.std.specs.Prelude.{◌≡◌, ◌≤◌, [], IfOk, vec_capacity};
 
+use crate::limits::{ROW_LIMIT, STATE_LIMIT};
 use crate::parts::{Row, State};
 use std::alloc::{AllocError, Global};
 
@@ -17,8 +18,8 @@ impl Tables {
     pub fn new(heap: Global) -> Result<Tables, AllocError>
         ensures { IfOk result (λ t. (t.states.items ≡ []) × (t.rows.items ≡ [])) }
     {
-        let states = Vec::with_capacity(heap, 128)?;
-        let rows = Vec::with_capacity(heap, 64)?;
+        let states = Vec::with_capacity(heap, STATE_LIMIT)?;
+        let rows = Vec::with_capacity(heap, ROW_LIMIT)?;
         Ok(Tables { states, rows })
     }
 }

@@ -3,3 +3,5 @@ pub mod Counts
 pub mod Cutting
 pub mod Agreement
 pub mod Writing
+pub mod Lengths
+pub mod Codes

@@ -12,14 +12,6 @@ over_over (x ∷ xs) old ys p h =
     let e : onward p (length (x ∷ xs)) ≡ onward (onward p 1) (length xs) = omega arith in
     ap (λ n. over (over old p (x ∷ xs)) n ys) e ∙ over_over xs (set old p x) ys (onward p 1) (omega arith)
 
--- a text leaves the length of what it is written over
-pub length_over : (old : List ℕ) (p : ℕ) (bs : List ℕ) → length (over old p bs) ≡ length old
-length_over old p [] = refl
-length_over old p (b ∷ bs) = length_over (set old p b) (onward p 1) bs ∙ length-set old p b
-
-pub gave_byte : (w v : Writer) (b : ℕ) → v.buffer.now ≡ set w.buffer.now w.length b → v.length ≡ onward w.length 1 → v.buffer.ghost_name ≡ w.buffer.ghost_name → Gave w (b ∷ []) v
-gave_byte w v b e n l = record { bytes = e; counted = n; lent = l }
-
 pub gave_more : {u v w : Writer} {xs ys : List ℕ} → u.length < 2 ^ 64 → Gave u xs v → Gave v ys w → Gave u (xs ++ ys) w
 gave_more {u = u} {v = v} {w = w} {xs = xs} {ys = ys} h a b = record {
   bytes = b.bytes ∙ (λ i. over (a.bytes i) (a.counted i) ys) ∙ over_over xs u.buffer.now ys u.length h;
@@ -66,7 +58,3 @@ pub gave_front : (text old : List ℕ) (w v : Writer) → w.buffer.now ≡ old �
     → (v.buffer.now ≡ text ++ drop (length text) old) × (v.length ≡ length text)
 gave_front text old w v e z g h l =
     (g.bytes ∙ (λ i. over (e i) (z i) text) ∙ over_front text old h l, omega (arith, g.counted, z))
-
--- a text that was counted as at most 65536 bytes is as long as the count
-pub gave_short : (text : List ℕ) (w v : Writer) → w.length ≡ 0 → Gave w text v → v.length ≤ 65536 → v.length ≡ length text
-gave_short text w v z g h = omega (arith, g.counted, z)

@@ -10,12 +10,12 @@ pub fn field(bytes: &[u8], range: Range<u32>, place: Place) -> Result<u32, Fault
     ensures value { result ≡ field_of range.start range.end place bytes.now }
     ensures within { IfOk result (λ n. (range.start ≤ n) × (n < range.end)) }
 {
-    match number(bytes) {
-        Ok(n) if range.contains(&n) => Ok(n),
-        Ok(_) => Err(Fault {
+    let n = number(bytes).map_err(|refusal| Fault { refusal, place })?;
+    if !range.contains(&n) {
+        return Err(Fault {
             refusal: Refusal::OutOfRange,
             place,
-        }),
-        Err(refusal) => Err(Fault { refusal, place }),
+        });
     }
+    Ok(n)
 }

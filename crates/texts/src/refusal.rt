@@ -1,7 +1,7 @@
-ghost use Rattle.std.specs.Prelude.{◌≡◌};
+ghost use Rattle.std.specs.Prelude.{◌≡◌, ◌≤◌, length};
 ghost use Rattle.texts.specs.Fields.{fault_at};
 ghost use Rattle.texts.specs.Lines.{at};
-ghost use Rattle.texts.specs.Refusals.{code_of};
+ghost use Rattle.texts.specs.Refusals.{code_of, fault_text};
 
 /// Why a call is refused. Each entry has its number in the refusal table.
 #[derive(Clone, Copy, PartialEq, Eq, Debug)]
@@ -95,9 +95,10 @@ pub struct Fault {
 }
 
 impl Fault {
-    /// A refusal at `field` of `line`.
+    /// A refusal at `field` of `line`. Written, it is a line of at most 70 bytes.
     pub fn new(refusal: Refusal, line: usize, field: usize) -> Fault
-        ensures { result ≡ fault_at refusal (at line field) }
+        ensures value { result ≡ fault_at refusal (at line field) }
+        ensures short { length (fault_text result) ≤ 70 }
     {
         Fault {
             refusal,

@@ -1,7 +1,7 @@
 //! Takes one sheet from its text through its verdicts back to its text, and prints what was done.
 #![tactic(auto)]
 
-use bench::Bench;
+use bench::{Bench, TEXT_LIMIT, WORK_LENGTH};
 use sets::{BitSet, StateSet, count};
 use sheets::sheet::Sheet;
 use std::fs;
@@ -88,8 +88,8 @@ fn run(rt: &HostRuntime) -> anyhow::Result<()> {
     let heap = rt.alloc();
     let text = fs::read(rt, "seven.sheet")?;
     let mut bench = Bench::blank(heap)?;
-    let mut work = vec![in heap; 0u8; 16_384]?;
-    let mut out = vec![in heap; 0u8; 65_536]?;
+    let mut work = vec![in heap; 0u8; WORK_LENGTH]?;
+    let mut out = vec![in heap; 0u8; TEXT_LIMIT]?;
     if let Err(fault) = bench.read(text.as_slice()) {
         let code = fault.refusal.code();
         let line = fault.place.line;

@@ -9,6 +9,7 @@ ghost use Rattle.writer.specs.Render.{header_text, channel_text, holders_text, s
 
 use search::StepRule;
 use sheets::holders::Holders;
+use sheets::limits::TEXT_LIMIT;
 use sheets::moves::Moves;
 use sheets::operator::Kind;
 use sheets::parts::{Header, Local, Row, State};
@@ -181,9 +182,6 @@ impl Text for SheetText<'_> {
         write_rows(writer, sheet.rows());
     }
 }
-
-/// How many bytes a sheet's text may have.
-const TEXT_LIMIT: usize = 65_536;
 
 /// Writes the sheet's text from the front of `out`, and answers its length; later bytes stay.
 #[tactic(auto, using(crate::proofs::SameText::same_text))]

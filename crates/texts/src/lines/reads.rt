@@ -49,11 +49,7 @@ impl<'a> Lines<'a> {
     pub fn due(&mut self, letter: u8) -> Result<Line<'a>, Fault>
         ensures { Due letter self.old result self.new }
     {
-        // No `ok_or_else`: of a closure that captures `self` a proof cannot tie the answer.
-        match self.take(letter) {
-            Some(line) => Ok(line),
-            None => Err(self.missing()),
-        }
+        self.take(letter).ok_or(self.missing())
     }
 
     /// The fault where a line is due that does not come.

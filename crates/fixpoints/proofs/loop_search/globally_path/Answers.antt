@@ -1,4 +1,4 @@
-use Rattle.std.proofs.Common.{◌≡◌, ℕ, true, List, length, Some, sym, ap, ◌∙◌, arith, rules}
+use Rattle.std.proofs.Common.{◌≡◌, ℕ, ◌≤◌, true, List, length, Some, sym, ap, ◌∙◌, arith, rules}
 use Rattle.std.proofs.lemmas.Bool.{cond-true, lt-ltb}
 use Rattle.search.proofs.StackLaws.{behind_first, behind_push, behind_trans}
 use Rattle.fixpoints.specs.Witnesses.{PathBack}
@@ -20,8 +20,9 @@ returns-clause-path g c =
     let v = c.new-walk.result in
     let w = c.follow-place.new.walk in
     let e = c.push.ensures in
+    let room : n ≤ length c.args.path.now = search rules in
     let none = ap length c.new-walk.ensures.empty in
-    let pushes : c.push.result ≡ true = e.fits ∙ lt-ltb _ _ (omega (arith, none, c.new-walk.ensures.size, c.if-graph-path.false, same.0, (c.globally_rounds.ensures.inside k on).0)) in
+    let pushes : c.push.result ≡ true = e.fits ∙ lt-ltb _ _ (omega (arith, none, c.new-walk.ensures.size, room, same.0, (c.globally_rounds.ensures.inside k on).0)) in
     let first = behind_push v v c.push.new.self c.push.result k (behind_first v) pushes e.len e.size e.slots e.lent in
     let behind = behind_trans v c.push.new.self w first c.follow-place.ensures.behind (omega (arith, e.len ∙ cond-true _ _ _ pushes, none, c.follow-place.ensures.some)) in
     let P : List ℕ → Type 0 = λ xs. PathBack n s f k c.args.path.now xs (Some (record { length = c.len.result; place = c.follow-place.result })) in

@@ -6,8 +6,8 @@ use Rattle.reader.proofs.reading.fill.Goals as goal
 
 pub returns : goal.returns
 returns c =
-    let front = c.in_ok-front.front in
-    let h = front.header in
+    let preamble = c.in_ok-preamble.preamble in
+    let h = preamble.header in
     let ss = c.read_moves.new.states in
     let read = c.in_ok-read_all_locals.ensures in
     let moved = c.in_ok-read_moves.ensures in
@@ -19,10 +19,10 @@ returns c =
     ap vec_items c.in_ok-read_rows.ensures.states ∙ take-append-whole table.len ss _ (omega (arith, table.ok.0)) in
     let checked = c.deref.ensures.value in
     record {
-      bounded = front.bounded;
+      bounded = preamble.bounded;
       states = omega (arith, t.states.ok.0, ap length kept, read.all);
       few_rows = omega (arith, t.rows.ok.0, rows.few);
-      holders_exist = front.holders_exist;
+      holders_exist = preamble.holders_exist;
       states_fit = ap (states_fit h.marks) kept ∙ moved.fit;
       some_start = ap any_start (sym checked) ∙ whole.0;
       few_moves = omega (arith, ap move_count kept, moved.few);

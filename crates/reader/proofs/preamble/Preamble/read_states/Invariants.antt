@@ -1,7 +1,7 @@
 use Rattle.std.proofs.Common.{◌≡◌, true, vec_items, vec_len}
 use Rattle.sheets.specs.Fitting.{states_fit}
 use Rattle.reader.specs.Reading.{Unmoved}
-use Rattle.reader.proofs.front.Front.read_states.Given as goal
+use Rattle.reader.proofs.preamble.Preamble.read_states.Given as goal
 
 abbrev pub invariant-loop-due : goal.invariant-loop-due
 invariant-loop-due l = record {

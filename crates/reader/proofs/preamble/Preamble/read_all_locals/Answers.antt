@@ -2,7 +2,7 @@ use Rattle.std.proofs.Common.{◌∙◌, length-set}
 use Rattle.sheets.proofs.Filling.{fit_set}
 use Rattle.sheets.proofs.Validity.{fits_at}
 use Rattle.reader.proofs.Filled.{unmoved_set}
-use Rattle.reader.proofs.front.Front.read_all_locals.Goals as goal
+use Rattle.reader.proofs.preamble.Preamble.read_all_locals.Goals as goal
 
 pub read_locals-requires : goal.read_locals-requires
 read_locals-requires c = fits_at c.args.self.now.header.marks c.loop-number.states c.loop-number.number c.loop-number.invariant.fit

@@ -3,7 +3,7 @@ use Rattle.sheets.specs.Fitting.{states_fit}
 use Rattle.sheets.proofs.Filling.{fit_push}
 use Rattle.reader.specs.Reading.{Unmoved}
 use Rattle.reader.proofs.Filled.{unmoved_push}
-use Rattle.reader.proofs.front.Front.read_states.Goals as goal
+use Rattle.reader.proofs.preamble.Preamble.read_states.Goals as goal
 
 pub loop-due-preserved : goal.loop-due-preserved
 loop-due-preserved c =

@@ -6,8 +6,8 @@ use Rattle.texts.specs.Fields.{field_of}
 use Rattle.texts.specs.Lines.{at}
 use Rattle.sheets.proofs.Filling.{no_copies, copy_fits}
 use Rattle.reader.proofs.Copies.{copies_held, copies_skip, copies_fault, copies_end}
-use Rattle.reader.proofs.front.Front.copies.Goals as goal
-use Rattle.reader.proofs.front.Front.copies.Goals.{then-has+in_ok-copy, else-has}
+use Rattle.reader.proofs.preamble.Preamble.copies.Goals as goal
+use Rattle.reader.proofs.preamble.Preamble.copies.Goals.{then-has+in_ok-copy, else-has}
 
 pub loop-channel-init : goal.loop-channel-init
 loop-channel-init c = record { left = refl; same_line = refl; few = omega arith; fit = no_copies }

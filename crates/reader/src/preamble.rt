@@ -7,7 +7,7 @@ use sheets::parts::Header;
 
 /// What a sheet has beside its tables: the header, and who holds which channel.
 #[derive(Drop)]
-pub(crate) struct Front {
+pub(crate) struct Preamble {
     pub header: Header,
     pub holders: Holders,
     ghost bounded: { Bounded header },

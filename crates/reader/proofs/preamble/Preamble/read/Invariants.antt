@@ -1,6 +1,6 @@
 use Rattle.std.proofs.Common.{◌≡◌, ℕ, ◌<◌, true, length}
 use Rattle.sheets.specs.Holding.{held}
-use Rattle.reader.proofs.front.Front.read.Given as goal
+use Rattle.reader.proofs.preamble.Preamble.read.Given as goal
 
 abbrev pub invariant-loop-line : goal.invariant-loop-line
 invariant-loop-line l = (c p : ℕ) → held l.holders c p ≡ true → (c < l.header.channels) × (p < l.header.parties)

@@ -1,7 +1,7 @@
 use Rattle.std.proofs.Common.{◌≡◌, ◌≤◌, true, length}
 use Rattle.sheets.specs.Fitting.{states_fit}
 use Rattle.sheets.specs.Moves.{move_count}
-use Rattle.reader.proofs.front.Front.read_moves.Given as goal
+use Rattle.reader.proofs.preamble.Preamble.read_moves.Given as goal
 
 abbrev pub invariant-loop-line : goal.invariant-loop-line
 invariant-loop-line l = record {

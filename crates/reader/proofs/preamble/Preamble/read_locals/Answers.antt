@@ -1,6 +1,6 @@
 use Rattle.std.proofs.Common.{refl}
 use Rattle.sheets.proofs.Filling.{local_set}
-use Rattle.reader.proofs.front.Front.read_locals.Goals as goal
+use Rattle.reader.proofs.preamble.Preamble.read_locals.Goals as goal
 
 pub loop-party-preserved : goal.loop-party-preserved
 loop-party-preserved c = (

@@ -1,7 +1,7 @@
 use Rattle.std.proofs.Common.{◌≡◌, ◌+◌, ◌-◌, ◌≤◌, true, replicate}
 use Rattle.sheets.specs.Fitting.{copies_fit}
 use Rattle.reader.specs.Readers.{copies_from}
-use Rattle.reader.proofs.front.Front.copies.Given as goal
+use Rattle.reader.proofs.preamble.Preamble.copies.Given as goal
 
 abbrev pub invariant-loop-channel : goal.invariant-loop-channel
 invariant-loop-channel l = record {

@@ -1,7 +1,7 @@
 use Rattle.std.proofs.Common.{◌≡◌, ◌+◌, length, vec_items, ap, ◌∙◌, arith}
 use Rattle.sheets.specs.Rows.{sound_rows}
 use Rattle.reader.proofs.Rows.{sound_push}
-use Rattle.reader.proofs.front.Front.read_rows.Goals as goal
+use Rattle.reader.proofs.preamble.Preamble.read_rows.Goals as goal
 
 pub loop-line-preserved : goal.loop-line-preserved
 loop-line-preserved c =

@@ -5,7 +5,7 @@ use Rattle.sheets.specs.Moves.{no_state}
 use Rattle.sheets.proofs.Filling.{fit_set, moves_set, unmoved_count, moves_more}
 use Rattle.sheets.proofs.Validity.{fits_at}
 use Rattle.reader.proofs.Filled.{put_adds}
-use Rattle.reader.proofs.front.Front.read_moves.Goals as goal
+use Rattle.reader.proofs.preamble.Preamble.read_moves.Goals as goal
 
 pub loop-line-init : goal.loop-line-init
 loop-line-init c =
