@@ -49,6 +49,14 @@ pub record Starts (n : ℕ) (steps : ℕ → ℕ → Bool) (z : ℕ → Bool) (x
   pub long : n ≤ length xs
   pub passed : Passed n steps z xs
 
+-- if z has k, then k leads to the state below n that xs keeps for it
+abbrev pub KeepsStep : ℕ → (ℕ → ℕ → Bool) → (ℕ → Bool) → List ℕ → ℕ → Type 0
+KeepsStep n steps z xs k = z k ≡ true → (slice_index xs k < n) × (steps k (slice_index xs k) ≡ true)
+
+-- so for every state of z
+abbrev pub KeepsSteps : ℕ → (ℕ → ℕ → Bool) → (ℕ → Bool) → List ℕ → Type 0
+KeepsSteps n steps z xs = (k : ℕ) → KeepsStep n steps z xs k
+
 -- an empty stack with a slot for each state
 pub record Ready (n : ℕ) (s : Stack ℕ) : Type 0 where
   pub empty : contents s ≡ []

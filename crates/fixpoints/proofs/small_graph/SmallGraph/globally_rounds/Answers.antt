@@ -25,6 +25,7 @@ rounds-init g c =
       },
       running_first n (globally_step n (g.R.StepRule.steps c.args.self.now.rule.now)) start (count n) z
           (λ k. c.copy.ensures.after k ∙ cond_on (is_ok c.copy.result) start _ on k) (count_le n z),
+      λ lt. absurd (omega (arith, lt)),
     )
 
 pub shrink-requires-clause-below : goal.shrink-requires-clause-below
@@ -51,6 +52,7 @@ rounds-preserved g c =
       c.shrink.ensures.starts,
       running_more n (globally_step n s) (below n (g.F.StateSet.holds c.args.operand.now)) (count n) c.rounds.rounds z w c.rounds.invariant.2 e
           (globally_falls n s z b told w e t) (globally_changes n s z b told t),
+      λ _. c.shrink.ensures.kept,
     )
 
 pub returns : goal.returns
