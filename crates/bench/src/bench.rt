@@ -81,7 +81,7 @@ impl Bench {
     }
 
     /// Writes a line for each formula line from the front of `out`, and answers the length of the text;
-    /// later bytes stay, and the set is left empty.
+    /// later bytes stay, and the set is left empty. No report has more than 1,152 bytes.
     pub fn report<S: StateSet>(
         &self,
         work: &mut [u8],
@@ -91,6 +91,7 @@ impl Bench {
         ensures value { result ≡ report_answer (model_of self.now.sheet) (length work.old) (length out.old) S.CAPACITY }
         ensures text { out.new ≡ filled result (report_text (model_of self.now.sheet)) out.old }
         ensures unchanged { OnErr result ((set.new ≡ set.old) × (out.new ≡ out.old)) }
+        ensures short { length (report_text (model_of self.now.sheet)) ≤ 1152 }
         ensures done { IfOk result (λ n. (n ≤ length out.new) × ((k : ℕ) → S.holds set.new k ≡ false)) }
     {
         judging::reporting::report(&self.sheet, work, set, out)

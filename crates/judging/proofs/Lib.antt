@@ -2,3 +2,4 @@ pub mod Turning
 pub mod Keeping
 pub mod Refusing
 pub mod Summaries
+pub mod ReportLength

@@ -8,7 +8,7 @@ use crate::work_buffer::WorkBuffer;
 use sets::StateSet;
 use sheets::sheet::Sheet;
 use texts::refusal::Refusal;
-use texts::text::{Text, measure, write_from_front};
+use texts::text::{Measured, Text};
 use texts::writer::Writer;
 
 /// The verdict, the rounds and the number of states of each line.
@@ -32,8 +32,8 @@ impl Text for Summaries<'_> {
 }
 
 /// Writes a line for each formula line of the sheet from the front of `out`, and answers the length of the
-/// text; later bytes stay, and the set is left empty.
-#[tactic(auto, using(crate::proofs::Summaries::report_is), unfolding(sheets::specs::Model::model_of))]
+/// text; later bytes stay, and the set is left empty. No report has more than 1,152 bytes.
+#[tactic(auto, using(crate::proofs::Summaries::report_is, crate::proofs::ReportLength::sheet_report_short), unfolding(sheets::specs::Model::model_of))]
 pub fn report<S: StateSet>(
     sheet: &Sheet,
     work: &mut [u8],
@@ -43,6 +43,7 @@ pub fn report<S: StateSet>(
     ensures value { Fits sheet.now → result ≡ report_answer (model_of sheet.now) (length work.old) (length out.old) S.CAPACITY }
     ensures text { Fits sheet.now → out.new ≡ filled result (report_text (model_of sheet.now)) out.old }
     ensures unchanged { OnErr result ((set.new ≡ set.old) × (out.new ≡ out.old)) }
+    ensures short { length (report_text (model_of sheet.now)) ≤ 1152 }
     ensures done { IfOk result (λ n. (n ≤ length out.new) × ((k : ℕ) → S.holds set.new k ≡ false)) }
 {
     if sheet.is_blank() {
@@ -54,11 +55,12 @@ pub fn report<S: StateSet>(
     let summaries = Summaries {
         lines: &summaries[..sheet.rows().len()],
     };
-    if measure(&summaries) > out.len() {
+    let text = Measured::new(&summaries);
+    if text.size() > out.len() {
         return Err(Refusal::ShortBuffer);
     }
     check_set::<S>(sheet)?;
-    let length = write_from_front(&summaries, out)?;
+    let length = text.write_from_front(out)?;
     set.clear();
     Ok(length)
 }

@@ -34,8 +34,9 @@ impl StepRule for BitRows<'_> {
     ghost steps = { λ rule. in_rows rule.rows.now };
 
     fn leads(&self, from: usize, to: usize) -> bool {
-        self.rows
-            .get(from)
-            .is_some_and(|row| BitSet::from_bits(*row).has(to))
+        match self.rows.get(from) {
+            Some(row) => BitSet::from_bits(*row).has(to),
+            None => false,
+        }
     }
 }

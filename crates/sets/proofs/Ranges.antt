@@ -1,5 +1,5 @@
 -- What `any`, `all` and `count` answer over the numbers below a limit.
-use Rattle.std.proofs.Common.{◌≡◌, refl, sym, ap, ◌∙◌, ℕ, zero, suc, ◌+◌, Bool, true, false, cond, ◌&&◌, ◌||◌, List, arith, length, Bor, Option}
+use Rattle.std.proofs.Common.{◌≡◌, refl, sym, ap, ◌∙◌, ℕ, zero, suc, ◌+◌, ◌%◌, ◌^◌, ◌<◌, ◌≤◌, Bool, true, false, cond, ◌&&◌, ◌||◌, List, [], ◌∷◌, ◌++◌, arith, length, Bor, Option}
 use denote.Param.Members.{Mut}
 use Rattle.std.specs.List.{range_with_len, list_any, list_all, count_by, FoldsTo}
 use Rattle.std.specs.Option.{MatchOption}
@@ -12,7 +12,10 @@ use Rattle.std.proofs.iter.Yields.{nat_range_steps}
 use Rattle.std.proofs.lemmas.Iterator.{YieldsList-from_range}
 use Rattle.std.proofs.lemmas.Iterator.Search.{any_from_yields_List, all_from_yields_List}
 use Rattle.std.proofs.lemmas.Iterator.Consumers.{YieldsList-from_filter, count_from_yields_List}
-use Rattle.std.proofs.lemmas.List.Sums.{length-filter, sum_by-cons}
+use Rattle.std.proofs.lemmas.Fn.{fold_over}
+use Rattle.std.proofs.lemmas.List.FromFn.{length-range_with_len}
+use Rattle.std.proofs.lemmas.List.{length_push}
+use Rattle.std.proofs.lemmas.List.Sums.{length-filter, sum_by-cons, sum_by-append, count_by-le-length}
 use Rattle.semantics.specs.Sets.{any, all, count}
 
 swap_or : (a b c : Bool) → (a || (b || c)) ≡ (b || (a || c))
@@ -76,3 +79,28 @@ pub count_upto : {F : Type 0} {g : Mut F (Bor ℕ × Unit {0}) Bool} {n : ℕ} {
 count_upto {n = n} {s = s} test source callee ran told =
     count_from_yields_List s _ ran (YieldsList-from_filter _ test (YieldsList-from_range 0 n n source (omega arith)) callee told)
     ∙ length-filter test (range_with_len 0 n) ∙ count_list n 0 test ∙ ap (count n) (from_zero test)
+
+one_at_most : (b : Bool) → cond b 1 0 ≤ 1
+one_at_most true = omega arith
+one_at_most false = omega arith
+
+one_more : (test : ℕ → Bool) (ys : List ℕ) (x : ℕ) → count_by test (ys ++ x ∷ []) ≡ count_by test ys + cond (test x) 1 0
+one_more test ys x =
+    sum_by-append (λ k. cond (test k) 1 0) ys (x ∷ [])
+    ∙ (let z : cond (test x) 1 0 + 0 ≡ cond (test x) 1 0 = omega arith in ap (λ m. count_by test ys + m) (sum_by-cons (λ k. cond (test k) 1 0) x [] ∙ z))
+
+-- the fact is the clause `ran` of the call of `fold`
+pub count_folded : {F : Type 0} {g : Mut F (ℕ × (ℕ × Unit {0})) ℕ} {n : ℕ} {f : F} {r : ℕ} (test : ℕ → Bool) → n < 2 ^ 64
+    → (xs : List ℕ) × (f' : F) × Drains nat_range_steps (record { start = 0; end = n }) xs × FoldsTo {P = F × ℕ} (λ p x q. Called g p.0 (p.1, (x, tt)) q.1 q.0) (f, 0) xs (f', r)
+    → ((a x b : ℕ) (q : F) → Called g f (a, (x, tt)) b q → (q ≡ f) × (b ≡ (a + cond (test x) 1 0) % 2 ^ 64)) → r ≡ count n test
+count_folded {n = n} test small ran told =
+    fold_over nat_range_steps (λ x. x) _ (λ ys a. length ys < 2 ^ 64 → a ≡ count_by test ys) _
+    (λ ys a x b q j k. let t = told a x b q k in (
+      (λ l.
+          let len = length_push ys x in
+          let before = j (omega (arith, l, len)) in
+          omega (arith, t.1, before, l, len, one_more test ys x, one_at_most (test x), count_by-le-length test ys)),
+      t.0,
+    ))
+    _ (range_with_len 0 n) 0 _ (YieldsList-from_range 0 n n refl (omega arith)).runs (λ l. refl) ran (omega (arith, small, length-range_with_len 0 n))
+    ∙ count_list n 0 test ∙ ap (count n) (from_zero test)

@@ -57,5 +57,8 @@ pub trait StateSet {
 pub fn count<S: StateSet>(set: &S, states: usize) -> usize
     ensures { result ≡ count states (S.holds set.now) }
 {
-    (0..states).filter(|state| set.has(*state)).count()
+    (0..states).fold(
+        0usize,
+        |total, state| total.wrapping_add(usize::from(set.has(state))),
+    )
 }

@@ -1,8 +1,12 @@
-ghost use Rattle.std.specs.Prelude.{◌≡◌, ℕ, ◌<◌, ◌≤◌, false, MatchResult, OnErr, is_ok};
-ghost use Rattle.sets.specs.Sorted.{Small, Rising, among, At, InsertionPoint};
+ghost use Rattle.std.specs.Prelude.{◌≡◌, ℕ, ◌<◌, ◌≤◌, false, MatchOption, MatchResult, OnErr, is_ok, slice_index};
+ghost use Rattle.sets.specs.Sorted.{Small, Rising, among, At, FirstNotBelow, InsertionPoint};
 ghost use Rattle.sets.specs.Bounds.{among_small};
 
 use crate::StateSet;
+
+/// How many items are looked at one by one before the list is searched by halves: a state near the front, or one of a
+/// short list, is found in fewer steps so.
+const NEAR: usize = 8;
 
 /// The states as a strictly rising list of at most 64 numbers, each below 64. No set takes memory, so the list is
 /// the front of a fixed array.
@@ -26,13 +30,26 @@ impl SortedList {
         }
     }
 
+    // Where the first of the items that are looked at one by one is not below `value`.
+    fn near(&self, value: u8) -> Option<usize>
+        ensures { MatchOption result ((k : ℕ) → k < self.now.len → k < 8 → slice_index self.now.items k < value) (λ place. FirstNotBelow self.now.items self.now.len place value) }
+    {
+        let front = &self.items[..self.len.min(NEAR)];
+        front.iter().position(|item| *item >= value)
+    }
+
     // Where `value` is, or else the place to put it in.
     fn find(&self, value: u8) -> Result<usize, usize>
         ensures place { MatchResult result (λ place. At self.now.items self.now.len place value) (λ place. InsertionPoint self.now.items self.now.len place value) }
         ensures member { is_ok result ≡ among self.now.items self.now.len value }
         ensures room { OnErr result (value < 64 → self.now.len < 64) }
     {
-        self.items[..self.len].binary_search(&value)
+        match self.near(value) {
+            Some(place) if self.items[place] == value => Ok(place),
+            Some(place) => Err(place),
+            None if self.len <= NEAR => Err(self.len),
+            None => self.items[..self.len].binary_search(&value),
+        }
     }
 }
 
@@ -59,10 +76,10 @@ impl StateSet for SortedList {
     }
 
     fn take(&mut self, state: usize) {
-        let Ok(value) = u8::try_from(state) else {
+        if Self::CAPACITY <= state {
             return;
-        };
-        if let Ok(place) = self.find(value) {
+        }
+        if let Ok(place) = self.find(state as u8) {
             self.items.copy_within(place + 1..self.len, place);
             self.len -= 1;
         }

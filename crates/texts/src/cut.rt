@@ -20,10 +20,11 @@ pub fn cut(bytes: &[u8], b: u8) -> (&[u8], &[u8])
 }
 
 /// How many of `bytes` are `b`.
-#[tactic(auto, using(crate::proofs::Counts::count_is))]
 pub fn occurrences(bytes: &[u8], b: u8) -> usize
     ensures value { result ≡ count b bytes.now }
     ensures bound { result ≤ length bytes.now }
 {
-    bytes.iter().filter(|c| **c == b).count()
+    bytes
+        .iter()
+        .fold(0usize, |n, c| n.wrapping_add(usize::from(*c == b)))
 }

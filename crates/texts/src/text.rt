@@ -33,16 +33,50 @@ pub fn measure<T: Text>(text: &T) -> usize
     writer.length()
 }
 
+/// A text whose bytes were counted, so that it can be measured and then written without being counted again.
+#[derive(Drop)]
+pub struct Measured<'a, T: Text> {
+    text: &'a T,
+    size: usize,
+    ghost counted: { size ≡ onward 0 (length (T.text text.now)) },
+}
+
+impl<'a, T: Text> Measured<'a, T> {
+    /// The text with the number of its bytes.
+    pub fn new(text: &'a T) -> Measured<'a, T>
+        ensures { result.text.now ≡ text.now }
+    {
+        let size = measure(text);
+        Measured { text, size }
+    }
+
+    /// How many bytes the text has, counted up to the largest number that fits 64 bits.
+    pub fn size(&self) -> usize
+        ensures { result ≡ onward 0 (length (T.text self.now.text.now)) }
+    {
+        self.size
+    }
+
+    /// Writes the text from the front of `out`, and answers its length; later bytes stay. Where `out` has no
+    /// room for it, it is refused and `out` stays.
+    pub fn write_from_front(&self, out: &mut [u8]) -> Result<usize, Refusal>
+        ensures value { result ≡ fitted (length (T.text self.now.text.now)) (length out.old) }
+        ensures after { out.new ≡ placed (T.text self.now.text.now) out.old }
+    {
+        if self.size > out.len() {
+            return Err(Refusal::ShortBuffer);
+        }
+        let mut writer = Writer::new(out);
+        self.text.write(&mut writer);
+        Ok(writer.length())
+    }
+}
+
 /// Writes the text from the front of `out`, and answers its length; later bytes stay. Where `out` has no
 /// room for it, it is refused and `out` stays.
 pub fn write_from_front<T: Text>(text: &T, out: &mut [u8]) -> Result<usize, Refusal>
     ensures value { result ≡ fitted (length (T.text text.now)) (length out.old) }
     ensures after { out.new ≡ placed (T.text text.now) out.old }
 {
-    if measure(text) > out.len() {
-        return Err(Refusal::ShortBuffer);
-    }
-    let mut writer = Writer::new(out);
-    text.write(&mut writer);
-    Ok(writer.length())
+    Measured::new(text).write_from_front(out)
 }

@@ -15,7 +15,7 @@ use sheets::operator::Kind;
 use sheets::parts::{Header, Local, Row, State};
 use sheets::sheet::Sheet;
 use texts::refusal::Refusal;
-use texts::text::{Text, measure, write_from_front};
+use texts::text::{Measured, Text};
 use texts::writer::Writer;
 
 /// Writes the header line.
@@ -191,8 +191,9 @@ pub fn write(sheet: &Sheet, out: &mut [u8]) -> Result<usize, Refusal>
     ensures text { Fits sheet.now → text_of sheet.now ≡ sheet_text (model_of sheet.now) }
 {
     let text = SheetText(sheet);
-    if measure(&text) > TEXT_LIMIT {
+    let text = Measured::new(&text);
+    if text.size() > TEXT_LIMIT {
         return Err(Refusal::WrittenTooLong);
     }
-    write_from_front(&text, out)
+    text.write_from_front(out)
 }
