@@ -1,20 +1,16 @@
 -- A rising list with a number put in or taken out.
-use Rattle.std.specs.Prelude.{◌≡◌, ℕ, zero, suc, ◌+◌, ◌-◌, ◌<◌, ◌≤◌, true, false, not, ◌&&◌, ◌||◌, List, ◌==◌, ◌≢◌, nat_eq, nat_le, Option, Some, None, MatchOption, position, slice_index, slice_index_or}
-use Rattle.std.specs.List.{position_or_len}
-use Rattle.std.proofs.lemmas.List.Sums.{fails_before_first}
+use Rattle.std.specs.Prelude.{◌≡◌, ℕ, zero, suc, ◌+◌, ◌-◌, ◌<◌, ◌≤◌, true, false, not, ◌&&◌, ◌||◌, List, ◌==◌, ◌≢◌, nat_eq, slice_index, slice_index_or}
 use Rattle.std.proofs.Common.{length, take, get_or, set, get_or-set_other, get_or-set_same, Result, Ok, Err, MatchResult, sym, ap, subst, ◌∙◌, inl, inr, arith}
 use Rattle.std.specs.List.{CopiedTo, SameBelow}
 use Rattle.std.specs.List.Sorted.{IsBinarySearchResult}
 use Rattle.std.specs.Ordering.{nat_cmp}
 use Rattle.std.specs.Result.{OnErr, is_ok}
 use Rattle.std.proofs.lemmas.List.{get_or-take, length-take-le}
-use Rattle.std.proofs.lemmas.Grind.{common_steps}
-use Rattle.std.proofs.lemmas.List.Quantifiers.{position-Some}
 use Rattle.std.proofs.lemmas.List.Sorted.{searched}
-use Rattle.std.proofs.lemmas.Bool.{leb-true, leb-false, cases_order, cases_lt, cases_eq, or_cases, or_left, or_right, eqb-true, eq-eqb, ne_eqb, both_ways, and_parts, and_from, not-true, not_from_false, cases_Bool}
+use Rattle.std.proofs.lemmas.Bool.{cases_order, cases_lt, cases_eq, or_cases, or_left, or_right, eqb-true, eq-eqb, ne_eqb, both_ways, and_parts, and_from, not-true, not_from_false, cases_Bool}
 use Rattle.sets.proofs.MemberLaws.{same_from}
 use Rattle.sets.specs.Bounds.{among_found, among_small}
-use Rattle.sets.specs.Sorted.{Small, Rising, among, At, FirstNotBelow, InsertionPoint}
+use Rattle.sets.specs.Sorted.{Small, Rising, among, At, InsertionPoint}
 
 among_at : (xs : List ℕ) (n k i : ℕ) → i < n → slice_index xs i ≡ k → among xs n k ≡ true
 among_at xs zero k i l e = absurd (omega arith)
@@ -50,38 +46,18 @@ found_in xs n v r l s b =
       | inr ne ↦ omega (arith, ne, len, get_or-take n xs i 0 (omega (arith, ne, len)), get_or-take n xs j 0 (omega (arith, len)), s i j (omega (arith, ne)) (omega (arith, len)))
     ]))
 
--- what a look at each of the first m finds, where m is n, or 8 where that is less
-pub near_is : (xs : List ℕ) (m n v : ℕ) (r : Option ℕ) → m ≤ length xs → m ≤ n → (m < n → m ≡ 8) → r ≡ position (λ x. nat_le v x) (take m xs) →
-    MatchOption r ((k : ℕ) → k < n → k < 8 → slice_index xs k < v) (λ i. FirstNotBelow xs n i v)
-near_is xs m n v None l h e is =
-    let len = length-take-le m xs l in
-    let all : length (take m xs) ≤ position_or_len (λ x. nat_le v x) (take m xs) = grind (arith, common_steps) in
-    λ k kn k8. let km : k < m = elim (cases_lt m n) [ inl q ↦ omega (arith, e q) | inr q ↦ omega arith ] in
-    omega (arith, leb-false v (get_or (take m xs) k 0) (fails_before_first (λ x. nat_le v x) (take m xs) k 0 (omega (arith, len, km))), get_or-take m xs k 0 km)
-near_is xs m n v (Some i) l h e is =
-    let len = length-take-le m xs l in
-    let found = position-Some (λ x. nat_le v x) (take m xs) i 0 (sym is) in
-    let im : i < m = omega (arith, found.0, len) in
-    record {
-      within = omega arith;
-      before = λ k ki. omega (arith, leb-false v (get_or (take m xs) k 0) (found.2 k ki), get_or-take m xs k 0 (omega arith));
-      here = omega (arith, leb-true v (get_or (take m xs) i 0) found.1, get_or-take m xs i 0 im);
-    }
-
--- a number that is not the first one not below it is put there
-pub put_here : (xs : List ℕ) (n at v : ℕ) → Rising xs n → FirstNotBelow xs n at v → (slice_index xs at ≡ v → ⊥) → InsertionPoint xs n at v
-put_here xs n at v s b ne = record {
+-- what is found in the first m is found in the first n, where v is not above the last of these m
+pub found_farther : (xs : List ℕ) (m n v : ℕ) (r : Result ℕ ℕ) → Rising xs n → m ≤ n → (m < n → (0 < m) × (v ≤ slice_index xs (m - 1))) →
+    MatchResult r (λ i. At xs m i v) (λ i. InsertionPoint xs m i v) → MatchResult r (λ i. At xs n i v) (λ i. InsertionPoint xs n i v)
+found_farther xs m n v (Ok i) s l far a = record { within = omega (arith, a.within); here = a.here }
+found_farther xs m n v (Err i) s l far b = record {
   within = omega (arith, b.within);
   before = b.before;
-  above = λ k h q. elim (cases_eq k at) [
-    | inl e ↦ omega (arith, b.here, ne, ap (λ u. slice_index xs u) e)
-    | inr other ↦ omega (arith, b.here, s at k (omega (arith, other)) q)
+  above = λ k h q. elim (cases_lt k m) [
+    | inl c ↦ b.above k h c
+    | inr c ↦ (let f = far (omega arith) in omega (arith, f.1, s (m - 1) k (omega (arith, f.0)) q))
   ];
 }
-
--- one that is above all is put behind them
-pub put_last : (xs : List ℕ) (n v : ℕ) → ((k : ℕ) → k < n → slice_index xs k < v) → InsertionPoint xs n n v
-put_last xs n v b = record { within = omega arith; before = b; above = λ k h q. absurd (omega arith) }
 
 insertion_none : (xs : List ℕ) (n at v : ℕ) → InsertionPoint xs n at v → among xs n v ≡ false
 insertion_none xs n at v b = elim (cases_Bool (among xs n v)) [

@@ -19,12 +19,6 @@ pub record At (xs : List ℕ) (n place v : ℕ) : Type 0 where
   pub within : place < n
   pub here : slice_index_or xs place 0 ≡ v
 
--- the first of the first n that is not below v
-pub record FirstNotBelow (xs : List ℕ) (n place v : ℕ) : Type 0 where
-  pub within : place < n
-  pub before : (k : ℕ) → k < place → slice_index xs k < v
-  pub here : v ≤ slice_index xs place
-
 -- a place for v, which the first n lack: those before it are below v, those from it on above
 pub record InsertionPoint (xs : List ℕ) (n place v : ℕ) : Type 0 where
   pub within : place ≤ n

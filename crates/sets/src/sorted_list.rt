@@ -1,12 +1,8 @@
-ghost use Rattle.std.specs.Prelude.{◌≡◌, ℕ, ◌<◌, ◌≤◌, false, MatchOption, MatchResult, OnErr, is_ok, slice_index};
-ghost use Rattle.sets.specs.Sorted.{Small, Rising, among, At, FirstNotBelow, InsertionPoint};
+ghost use Rattle.std.specs.Prelude.{◌≡◌, ℕ, ◌-◌, ◌<◌, ◌≤◌, false, MatchResult, OnErr, is_ok, slice_index};
+ghost use Rattle.sets.specs.Sorted.{Small, Rising, among, At, InsertionPoint};
 ghost use Rattle.sets.specs.Bounds.{among_small};
 
 use crate::StateSet;
-
-/// How many items are looked at one by one before the list is searched by halves: a state near the front, or one of a
-/// short list, is found in fewer steps so.
-const NEAR: usize = 8;
 
 /// The states as a strictly rising list of at most 64 numbers, each below 64. No set takes memory, so the list is
 /// the front of a fixed array.
@@ -30,12 +26,17 @@ impl SortedList {
         }
     }
 
-    // Where the first of the items that are looked at one by one is not below `value`.
-    fn near(&self, value: u8) -> Option<usize>
-        ensures { MatchOption result ((k : ℕ) → k < self.now.len → k < 8 → slice_index self.now.items k < value) (λ place. FirstNotBelow self.now.items self.now.len place value) }
+    // How many of the items to search for `value`: all, or so many that the last of them is not below it. The number
+    // grows from 1 by doubling, so that a value near the front is found in few steps.
+    fn reach(&self, value: u8) -> usize
+        ensures within { result ≤ self.now.len }
+        ensures far { result < self.now.len → (0 < result) × (value ≤ slice_index self.now.items (result - 1)) }
     {
-        let front = &self.items[..self.len.min(NEAR)];
-        front.iter().position(|item| *item >= value)
+        let mut reach = 1;
+        'doubling: while reach < self.len && self.items[reach - 1] < value {
+            reach *= 2;
+        }
+        reach.min(self.len)
     }
 
     // Where `value` is, or else the place to put it in.
@@ -44,12 +45,7 @@ impl SortedList {
         ensures member { is_ok result ≡ among self.now.items self.now.len value }
         ensures room { OnErr result (value < 64 → self.now.len < 64) }
     {
-        match self.near(value) {
-            Some(place) if self.items[place] == value => Ok(place),
-            Some(place) => Err(place),
-            None if self.len <= NEAR => Err(self.len),
-            None => self.items[..self.len].binary_search(&value),
-        }
+        self.items[..self.reach(value)].binary_search(&value)
     }
 }
 

@@ -1,21 +1,11 @@
-use Rattle.std.proofs.Common.{Ok, Err, rules}
-use Rattle.sets.proofs.SortedLaws.{found_in, found_member, put_here, room_left}
+use Rattle.std.proofs.Common.{arith, rules}
+use Rattle.sets.proofs.SortedLaws.{found_in, found_farther, found_member, room_left}
 use Rattle.sets.proofs.sorted_list.SortedList.find.Goals as goal
 
-pub returns-in-Some-clause-member : goal.returns-in-Some-clause-member
-returns-in-Some-clause-member c = let x = c.args.self.now in found_member x.items x.len c.args.value (Ok c.in-Some.place) (record { within = c.in-Some.ensures.within; here = search rules })
-
-pub returns-in-Some-2-clause-member : goal.returns-in-Some-2-clause-member
-returns-in-Some-2-clause-member c = let x = c.args.self.now in found_member x.items x.len c.args.value (Err c.in-Some.place) (put_here x.items x.len _ c.args.value x.rising c.in-Some.ensures (search rules))
-
-pub returns-in-Some-2-clause-room : goal.returns-in-Some-2-clause-room
-returns-in-Some-2-clause-room c = let x = c.args.self.now in room_left x.items x.len c.args.value (Err c.in-Some.place) x.short x.small x.rising (put_here x.items x.len _ c.args.value x.rising c.in-Some.ensures (search rules))
-
-pub returns-in-None-2-clause-place : goal.returns-in-None-2-clause-place
-returns-in-None-2-clause-place c = let x = c.args.self.now in found_in x.items x.len c.args.value _ (search rules) x.rising c.binary_search.ensures.position
-
-pub returns-in-None-2-clause-member : goal.returns-in-None-2-clause-member
-returns-in-None-2-clause-member c = let x = c.args.self.now in found_member x.items x.len c.args.value _ (returns-in-None-2-clause-place c)
-
-pub returns-in-None-2-clause-room : goal.returns-in-None-2-clause-room
-returns-in-None-2-clause-room c = let x = c.args.self.now in room_left x.items x.len c.args.value _ x.short x.small x.rising (returns-in-None-2-clause-place c)
+pub returns : goal.returns
+returns c =
+    let x = c.args.self.now in
+    let n = c.reach.result in
+    let near = found_in x.items n c.args.value _ (search rules) (λ i j h l. x.rising i j h (omega (arith, l, c.reach.ensures.within))) c.binary_search.ensures.position in
+    let place = found_farther x.items n x.len c.args.value _ x.rising c.reach.ensures.within c.reach.ensures.far near in
+    record { place = place; member = found_member x.items x.len c.args.value _ place; room = room_left x.items x.len c.args.value _ x.short x.small x.rising place }
